@@ -1,0 +1,3 @@
+pub mod Units
+pub mod Directions
+pub mod Totals

@@ -1,0 +1,12 @@
+-- Energy and capacity, and the way from one to the other.
+use Prim.Native.Nat.{ℕ, _*_}
+use Rattle.energy.specs.declared.unit.Kwh.{Kwh}
+use Rattle.energy.specs.declared.unit.Mw.{Mw}
+
+-- So many kWh.
+abbrev pub kwh : ℕ → Kwh
+kwh n = record { 0 = n }
+
+-- One MW for half an hour is 500 kWh.
+abbrev pub halfHour : Mw → Kwh
+halfHour m = kwh (500 * m .0)

@@ -1,0 +1,51 @@
+// The two directions of trade.
+ghost use mathlib.Core.Path.{_≡_};
+ghost use Rattle.energy.specs.Directions.{other, sender, receiver};
+use crate::side::Side;
+use std::fmt;
+
+/// The direction of a trade: from north to south (NS) or from south to north (SN).
+#[derive(Clone, Copy, PartialEq, Eq, Debug)]
+pub enum Direction {
+    NorthSouth,
+    SouthNorth,
+}
+
+impl Direction {
+    /// The direction against this one.
+    pub fn opposite(self) -> Direction
+        ensures { λ r. ⌜ r ≡ other self ⌝ }
+    {
+        match self {
+            Direction::NorthSouth => Direction::SouthNorth,
+            Direction::SouthNorth => Direction::NorthSouth,
+        }
+    }
+
+    /// The side that sends in this direction.
+    pub fn sending_side(self) -> Side
+        ensures { λ r. ⌜ r ≡ sender self ⌝ }
+    {
+        match self {
+            Direction::NorthSouth => Side::Northern,
+            Direction::SouthNorth => Side::Southern,
+        }
+    }
+
+    /// The side that receives in this direction.
+    pub fn receiving_side(self) -> Side
+        ensures { λ r. ⌜ r ≡ receiver self ⌝ }
+    {
+        self.sending_side().opposite()
+    }
+}
+
+pub impl fmt::Display for Direction as DirectionDisplay {
+    fn fmt<W: fmt::Write>(&self, f: &mut fmt::Formatter<W>) -> fmt::Result {
+        let word = match self {
+            Direction::NorthSouth => "NS",
+            Direction::SouthNorth => "SN",
+        };
+        write!(f, "{word}")
+    }
+}

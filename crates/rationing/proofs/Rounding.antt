@@ -1,0 +1,29 @@
+-- What comes from rounding down, with at most one kWh on top, is rounded down or up.
+use Prim.Native.Nat.{ℕ, _+_, _-_, _*_, _/_, _%_, _<_, _≤_}
+use mathlib.Core.Logic.{_⊎_, inl, inr, ⊎-elim}
+use mathlib.Core.Path.{_≡_, ap, sym, _∙_}
+use native.Mathlib.Nat.{mul-comm, mul-le-mul-left, mul-lt-mul-of-pos-right, div-le-self}
+use native.Mathlib.Omega.{arith}
+use Rattle.std.proofs.shelf.Bits.{div-below}
+use Rattle.std.proofs.shelf.Tests.{cases-lt}
+use Rattle.energy.proofs.Division.{div-up, div-add}
+use Rattle.rationing.specs.Quota.{Rounded}
+
+-- one more than the quotient, where a remainder is left
+pub rounded-more : (s : ℕ) → 0 < s → (n : ℕ) → 0 < n % s → Rounded n s (n / s + 1)
+rounded-more s some n h = inr (sym (div-up s some n h))
+
+-- the step of a running quotient
+pub rounded-step : (s : ℕ) → 0 < s → (x y : ℕ) → Rounded y s ((x + y) / s - x / s)
+rounded-step s some x y =
+    ⊎-elim (λ e. inl (omega arith))
+    (λ e. let up = div-up s some y (e .1) in inr (omega (arith, e .0)))
+    (div-add s some x y)
+
+-- a share of an amount below the sum is below its claim, or nothing
+pub share-below : (a c s : ℕ) → a < s → a * c / s ≤ c - 1
+share-below a c s h =
+    ⊎-elim
+    (λ (some : 0 < c). let below = div-below (a * c) s c (omega arith) (omega (arith, mul-comm c s, mul-lt-mul-of-pos-right h some)) in omega arith)
+    (λ none. let nothing = mul-le-mul-left a none in omega (arith, div-le-self (a * c) s))
+    (cases-lt 0 c)
