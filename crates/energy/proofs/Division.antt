@@ -33,3 +33,7 @@ module _ (s : ℕ) (some : 0 < s) where
       (λ h. inl (quotient (x + y) (x / s + y / s) (x % s + y % s) (omega arith) h))
       (λ h. inr (quotient (x + y) (x / s + y / s + 1) (x % s + y % s - s) (omega arith) (omega arith), omega arith))
       (cases-lt (x % s + y % s) s)
+
+  -- a larger number has no smaller quotient
+  pub div-le-add : (x y : ℕ) → x / s ≤ (x + y) / s
+  div-le-add x y = ⊎-elim (λ e. omega arith) (λ e. omega (arith, e .0)) (div-add x y)

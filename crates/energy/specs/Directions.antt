@@ -1,4 +1,7 @@
 -- Sides and directions.
+use Prim.Native.Nat.{ℕ}
+use mathlib.Core.List.{List}
+use lib.Chars.{codes}
 use Rattle.energy.specs.declared.side.Side.{Side}
 use Rattle.energy.specs.declared.side.Side.the-variants.{Northern, Southern}
 use Rattle.energy.specs.declared.direction.Direction.{Direction}
@@ -27,3 +30,8 @@ receiver d = facing (sender d)
 abbrev pub sends : Side → Direction
 sends Northern = NorthSouth
 sends Southern = SouthNorth
+
+-- A direction is written NS or SN.
+abbrev pub directionText : Direction → List ℕ
+directionText NorthSouth = codes "NS"
+directionText SouthNorth = codes "SN"

@@ -1,6 +1,7 @@
 // The two directions of trade.
 ghost use mathlib.Core.Path.{_≡_};
-ghost use Rattle.energy.specs.Directions.{other, sender, receiver};
+ghost use Rattle.energy.specs.Directions.{other, sender, receiver, directionText};
+ghost use Rattle.std.specs.declared.option.Option.the-variants.{Some};
 use crate::side::Side;
 use std::fmt;
 
@@ -41,11 +42,12 @@ impl Direction {
 }
 
 pub impl fmt::Display for Direction as DirectionDisplay {
+    ghost shown = { λ direction. Some (directionText direction) };
+
     fn fmt<W: fmt::Write>(&self, f: &mut fmt::Formatter<W>) -> fmt::Result {
-        let word = match self {
-            Direction::NorthSouth => "NS",
-            Direction::SouthNorth => "SN",
-        };
-        write!(f, "{word}")
+        match self {
+            Direction::NorthSouth => write!(f, "NS"),
+            Direction::SouthNorth => write!(f, "SN"),
+        }
     }
 }

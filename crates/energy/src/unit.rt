@@ -1,7 +1,8 @@
 // Energy, capacity, rates and money, each a type of its own, so that none is taken for another.
-ghost use Prim.Native.Nat.{_*_};
 ghost use mathlib.Core.Path.{_≡_};
-ghost use Rattle.energy.specs.Units.{halfHour};
+ghost use Rattle.energy.specs.Units.{halfHour, kwhText};
+ghost use Rattle.std.specs.declared.option.Option.the-variants.{Some};
+use std::fmt;
 
 /// Energy in whole kilowatt-hours.
 #[derive(Clone, Copy, PartialEq, Eq, PartialOrd, Ord, Debug)]
@@ -25,5 +26,14 @@ impl Mw {
         ensures { λ r. ⌜ r ≡ halfHour self ⌝ }
     {
         Kwh(self.0 as u64 * 500)
+    }
+}
+
+pub impl fmt::Display for Kwh as KwhDisplay {
+    ghost shown = { λ energy. Some (kwhText energy) };
+
+    fn fmt<W: fmt::Write>(&self, f: &mut fmt::Formatter<W>) -> fmt::Result {
+        let number = self.0;
+        write!(f, "{number} kWh")
     }
 }

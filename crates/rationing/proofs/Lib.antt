@@ -1,3 +1,5 @@
+pub mod Fractions
 pub mod Handing
 pub mod Quotas
 pub mod Rounding
+pub mod Stepping

@@ -1,11 +1,13 @@
 -- Which lists of claims a rule answers, and what it says to the others.
 use Prim.Native.Nat.{ℕ}
 use mathlib.Core.Bool.{Bool, true, false, _&&_, cond}
-use mathlib.Core.List.{List}
+use mathlib.Core.List.{List, _++_}
+use lib.Chars.{codes}
 use lib.Dec.{eqb, leb}
 use lib.ListN.{length}
 use Rattle.std.specs.declared.result.Result.{Result}
 use Rattle.std.specs.declared.result.Result.the-variants.{Ok, Err}
+use Rattle.std.specs.Written.{decimal}
 use Rattle.energy.specs.declared.unit.Kwh.{Kwh}
 use Rattle.energy.specs.Totals.{sumKwh}
 use Rattle.energy.specs.Units.{kwh}
@@ -19,6 +21,10 @@ admits claims places = eqb (length claims) places && (leb (length claims) 16 && 
 -- The number of each refusal.
 abbrev pub refusalNumber : RationingRefusal → ℕ
 refusalNumber ClaimsOutsideLimits = 20
+
+-- A refusal is written with its number.
+abbrev pub refusalText : RationingRefusal → List ℕ
+refusalText refusal = codes "refused " ++ decimal (refusalNumber refusal)
 
 -- A rule grants the claims that it admits, and refuses the others.
 abbrev pub answered : Bool → Result (Unit {0}) RationingRefusal

@@ -12,7 +12,7 @@ use energy::Kwh;
 
 /// Rounds every share down, then gives one kWh each to the first claims whose division left a
 /// remainder, until the amount is used.
-#[derive(Clone, Copy, PartialEq, Eq, Debug)]
+#[derive(Clone, Copy)]
 pub struct RegisterRule;
 
 pub impl RationingRule for RegisterRule as RegisterRationing {

@@ -1,0 +1,48 @@
+// The running rule: the amount is divided along the running sum of the claims.
+ghost use Prim.Native.Nat.{_<_};
+ghost use lib.ListN.{length};
+ghost use mathlib.Core.List.{map};
+ghost use mathlib.Core.Path.{_≡_};
+ghost use Rattle.std.specs.Iters.{counting};
+ghost use Rattle.energy.specs.Totals.{sumKwh};
+ghost use Rattle.rationing.specs.Running.{running, stepAt};
+use crate::admission::admitted_sum;
+use crate::division::divided;
+use crate::refusal::RationingRefusal;
+use crate::rule::RationingRule;
+use energy::Kwh;
+
+/// Gives each claim the part of the amount up to and with it, rounded down, less the part up to it.
+#[derive(Clone, Copy)]
+pub struct RunningRule;
+
+pub impl RationingRule for RunningRule as RunningRationing {
+    ghost awards = { λ _. running };
+
+    fn ration(&self, amount: Kwh, claims: &[Kwh], out: &mut [Kwh]) -> Result<(), RationingRefusal> {
+        let sum = admitted_sum(claims, out.len())?;
+        if sum.0 <= amount.0 {
+            out.copy_from_slice(claims);
+        } else {
+            divide_along(amount, sum, claims, out);
+        }
+        Ok(())
+    }
+}
+
+/// The steps of the running part, one to a claim.
+fn divide_along(amount: Kwh, sum: Kwh, claims: &[Kwh], out: &mut [Kwh])
+    requires short { ⌜ amount .0 < sum .0 ⌝ }
+    requires summed { ⌜ sum .0 ≡ sumKwh (now claims) ⌝ }
+    requires long { ⌜ length (now out) ≡ length (now claims) ⌝ }
+    ensures { λ _. ⌜ now (out .exit) ≡ map (stepAt (amount .0) (now (claims .entry))) (counting 0 (length (now (claims .entry)))) ⌝ }
+{
+    let mut claimed = 0;
+    let mut before = 0;
+    for (i, claim) in claims.iter().enumerate() {
+        claimed += claim.0;
+        let (part, _) = divided(amount, Kwh(claimed), sum);
+        out[i] = Kwh(part - before);
+        before = part;
+    }
+}
