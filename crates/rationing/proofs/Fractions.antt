@@ -3,16 +3,11 @@ use Prim.Native.Nat.{ℕ, _+_, _*_, _/_, _%_, _<_, _≤_, _∣_}
 use mathlib.Core.Path.{_≡_, ap, subst, sym, _∙_}
 use native.Mathlib.Nat.{add-mul, mul-assoc, mul-comm, div-mul-cancel, pos-of-dvd-of-pos, lt-of-mul-lt-mul-right, le-of-mul-le-mul-right, mul-dvd-mul-right, le-of-dvd, eq-one-of-dvd-one}
 use native.Mathlib.Omega.{arith}
-use lib.Dec.{leb}
 use Rattle.std.proofs.shelf.Bits.{div-add-mod', mod-below}
-use Rattle.std.proofs.shelf.Tests.{cond-true, cond-false, le-leb, lt-leb}
 use Rattle.energy.specs.declared.unit.Kwh.{Kwh}
 use Rattle.energy.specs.Units.{kwh}
 use Rattle.rationing.specs.declared.share.ExactShare.{ExactShare}
-use Rattle.rationing.specs.Share.{Coprime, Exactly, GreatestCommon, Quotient, quotient}
-
-abbrev over : ℕ → ℕ → Quotient
-over n s = record { dividend = n; divisor = s }
+use Rattle.rationing.specs.Share.{Coprime, Exactly, GreatestCommon, over}
 
 abbrev share : Kwh → ℕ → ℕ → ExactShare
 share w n d = record { whole = w; numerator = n; denominator = d }
@@ -51,27 +46,18 @@ module _ (r s g : ℕ) (some : 0 < s) (common : GreatestCommon r s g) where
       let least = pos-of-dvd-of-pos n (lt-of-mul-lt-mul-right g divided) in
       omega (arith, le-of-mul-le-mul-right most common-some)
 
-module _ (amount claim all : Kwh) where
-  -- an amount that covers the claims gives a claim whole
-  pub exact-whole : all .0 ≤ amount .0 → Exactly (quotient amount claim all) (share claim 0 1)
-  exact-whole h =
-      subst (λ (q : Quotient). Exactly q (share claim 0 1))
-      (sym (cond-true (leb (all .0) (amount .0)) (over (claim .0) 1) (over (amount .0 * claim .0) (all .0)) (le-leb (all .0) (amount .0) h)))
-      (record { value = omega arith; proper = omega arith; lowest = λ k m n. eq-one-of-dvd-one n })
+-- the quotient of a division, and its remainder over the divisor in lowest terms, are the number divided
+pub exact-part : (n s w r g : ℕ) → 0 < s → w ≡ n / s → r ≡ n % s → GreatestCommon r s g → Exactly (over n s) (share (kwh w) (r / g) (s / g))
+exact-part n s w r g some whole rest common =
+    let parts = div-add-mod' n s in
+    let times = ap (λ (x : ℕ). x * s) whole in
+    let dividend : w * s + r ≡ n = omega arith in
+    record {
+      value = lowest-value r s g some common w ∙ ap (λ (x : ℕ). x * (s / g)) dividend;
+      proper = lowest-proper r s g some common (omega (arith, mod-below n s some));
+      lowest = lowest-coprime r s g some common;
+    }
 
-  -- a smaller amount gives the quotient, and the remainder over the sum in lowest terms
-  pub exact-part : (w r g : ℕ) → amount .0 < all .0 → w ≡ amount .0 * claim .0 / all .0 → r ≡ amount .0 * claim .0 % all .0 → GreatestCommon r (all .0) g → Exactly (quotient amount claim all) (share (kwh w) (r / g) (all .0 / g))
-  exact-part w r g h whole rest common =
-      let n = amount .0 * claim .0 in
-      let s = all .0 in
-      let some : 0 < s = omega arith in
-      let parts = div-add-mod' n s in
-      let times = ap (λ (x : ℕ). x * s) whole in
-      let dividend : w * s + r ≡ n = omega arith in
-      subst (λ (q : Quotient). Exactly q (share (kwh w) (r / g) (s / g)))
-      (sym (cond-false (leb s (amount .0)) (over (claim .0) 1) (over n s) (lt-leb s (amount .0) h)))
-      (record {
-        value = lowest-value r s g some common w ∙ ap (λ (x : ℕ). x * (s / g)) dividend;
-        proper = lowest-proper r s g some common (omega (arith, mod-below n s some));
-        lowest = lowest-coprime r s g some common;
-      })
+-- a whole number is itself over 1
+pub exact-whole : (w : Kwh) → Exactly (over (w .0) 1) (share w 0 1)
+exact-whole w = record { value = omega arith; proper = omega arith; lowest = λ k m n. eq-one-of-dvd-one n }

@@ -1,14 +1,15 @@
 -- What the register rule hands out: an award for each claim, rounded, that use the amount up.
 use Prim.Native.Nat.{ℕ, zero, suc, _+_, _-_, _*_, _/_, _%_, _<_, _≤_}
 use mathlib.Core.Bool.{Bool, true, false, _&&_, cond}
-use mathlib.Core.List.{List, [], _∷_}
+use mathlib.Core.List.{List, [], _∷_, _++_, append-assoc}
 use mathlib.Core.Logic.{_⊎_, inl, inr, ⊎-elim}
 use mathlib.Core.Path.{_≡_, refl, ap, subst, sym, _∙_}
 use native.Mathlib.Nat.{div-add-mod, mul-add, mul-comm, le-of-mul-le-mul-left, le-of-suc-le-suc, not-suc-le-zero}
 use native.Mathlib.Omega.{arith}
 use lib.Dec.{ltb, leb}
-use lib.ListN.{length, getD}
+use lib.ListN.{length, getD, take, drop, set}
 use Rattle.std.proofs.shelf.Bits.{mod-below}
+use Rattle.std.proofs.shelf.Lists.{at-drop-more, take-more-set}
 use Rattle.std.proofs.shelf.Sums.{sumBy-cons}
 use Rattle.std.proofs.shelf.Tests.{and-parts, cond-both, ltb-true, ltb-false}
 use Rattle.std.proofs.shelf.Ways.{tells}
@@ -45,6 +46,14 @@ module _ (a s : ℕ) where
   pub handed-length : (l : ℕ) (cs : List Kwh) → length (handed a s l cs) ≡ length cs
   handed-length l [] = refl
   handed-length l (c ∷ cs) = ap suc (handed-length (l - odd l (over a s c)) cs)
+
+  -- one award more is written, and what is left is handed to the other claims
+  pub handed-more : (l : ℕ) (claims out : List Kwh) (i w o : ℕ) → i < length claims → i < length out → w ≡ down a s (getD claims i (kwh 0)) → o ≡ odd l (over a s (getD claims i (kwh 0))) → take (i + 1) (set out i (kwh (w + o))) ++ handed a s (l - o) (drop (i + 1) claims) ≡ take i out ++ handed a s l (drop i claims)
+  handed-more l claims out i w o within place whole one =
+      let next = at-drop-more (handed a s l) claims i (kwh 0) within in
+      let front = take-more-set out i (kwh (w + o)) place in
+      let joined = append-assoc (take i out) (kwh (w + o) ∷ []) (handed a s (l - o) (drop (i + 1) claims)) in
+      cc
 
   handed-sum : (l : ℕ) (cs : List Kwh) → l ≤ sumOf (uneven a s) cs → sumKwh (handed a s l cs) ≡ sumOf (down a s) cs + l
   handed-sum l [] h = omega arith

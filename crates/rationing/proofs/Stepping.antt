@@ -9,7 +9,7 @@ use lib.ListN.{length, getD, take}
 use Rattle.std.specs.Iters.{counting}
 use Rattle.std.proofs.shelf.Counted.{length-map-counting, getD-map-counting, sumBy-map-counting-more}
 use Rattle.std.proofs.shelf.Lists.{take-all}
-use Rattle.std.proofs.shelf.Sums.{sumBy-more}
+use Rattle.std.proofs.shelf.Sums.{sumBy-more, sumBy-take-le}
 use Rattle.energy.specs.declared.unit.Kwh.{Kwh}
 use Rattle.energy.specs.Totals.{sumKwh}
 use Rattle.energy.specs.Units.{kwh}
@@ -18,6 +18,11 @@ use Rattle.rationing.specs.Quota.{Quota, Rounded}
 use Rattle.rationing.specs.Running.{upTo, stepAt, running}
 use Rattle.rationing.proofs.Quotas.{quota-split}
 use Rattle.rationing.proofs.Rounding.{rounded-step}
+
+-- the claims up to and with one stay within the sum of all
+pub claimed-within : (claims : List Kwh) (i : ℕ) → i < length claims → sumKwh (take i claims) + getD claims i (kwh 0) .0 ≤ sumKwh claims
+claimed-within claims i h =
+    omega (arith, sumBy-more (λ (x : Kwh). x .0) claims i (kwh 0) h, sumBy-take-le (λ (x : Kwh). x .0) claims (i + 1))
 
 module _ (a : ℕ) (claims : List Kwh) where
   -- the amount's part up to and with a claim is that up to it, and the claim's own

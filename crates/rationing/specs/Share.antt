@@ -15,10 +15,13 @@ pub record Quotient : Type 0 where
   pub dividend : ℕ
   pub divisor : ℕ
 
+abbrev pub over : ℕ → ℕ → Quotient
+over n s = record { dividend = n; divisor = s }
+
 -- An amount that covers the sum of the claims gives a claim whole; otherwise its share is amount × claim / sum.
 abbrev pub quotient : Kwh → Kwh → Kwh → Quotient
 quotient amount claim all =
-    cond (leb (all .0) (amount .0)) (record { dividend = claim .0; divisor = 1 }) (record { dividend = amount .0 * claim .0; divisor = all .0 })
+    cond (leb (all .0) (amount .0)) (over (claim .0) 1) (over (amount .0 * claim .0) (all .0))
 
 -- Only 1 divides both.
 abbrev pub Coprime : ℕ → ℕ → Type 0

@@ -1,5 +1,5 @@
 // The running rule: the amount is divided along the running sum of the claims.
-ghost use Prim.Native.Nat.{_<_};
+ghost use Prim.Native.Nat.{_+_, _*_, _/_, _<_, _≤_};
 ghost use lib.ListN.{length};
 ghost use mathlib.Core.List.{map};
 ghost use mathlib.Core.Path.{_≡_};
@@ -40,9 +40,18 @@ fn divide_along(amount: Kwh, sum: Kwh, claims: &[Kwh], out: &mut [Kwh])
     let mut claimed = 0;
     let mut before = 0;
     for (i, claim) in claims.iter().enumerate() {
-        claimed += claim.0;
-        let (part, _) = divided(amount, Kwh(claimed), sum);
+        let part = part_up_to(amount, claimed, *claim, sum);
         out[i] = Kwh(part - before);
+        claimed += claim.0;
         before = part;
     }
+}
+
+/// The part of the amount that falls to the claims before this one and to this one, rounded down.
+fn part_up_to(amount: Kwh, claimed: u64, claim: Kwh, sum: Kwh) -> u64
+    requires short { ⌜ amount .0 < sum .0 ⌝ }
+    requires within { ⌜ claimed + claim .0 ≤ sum .0 ⌝ }
+    ensures { λ r. ⌜ r ≡ amount .0 * (claimed + claim .0) / sum .0 ⌝ }
+{
+    divided(amount, Kwh(claimed + claim.0), sum).0
 }

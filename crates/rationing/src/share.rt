@@ -1,6 +1,6 @@
 // A claim's exact share, before it is rounded to whole kWh.
-ghost use mathlib.Core.Path.{_≡_};
-ghost use Rattle.rationing.specs.Share.{Exactly, quotient, GreatestCommon, shareText};
+ghost use Prim.Native.Nat.{_*_, _<_};
+ghost use Rattle.rationing.specs.Share.{Exactly, quotient, over, GreatestCommon, shareText};
 ghost use Rattle.std.specs.declared.option.Option.the-variants.{Some};
 use crate::division::divided;
 use energy::Kwh;
@@ -22,12 +22,26 @@ pub fn exact_share(amount: Kwh, claim: Kwh, sum: Kwh) -> ExactShare
     ensures { λ r. ⌜ Exactly (quotient amount claim sum) r ⌝ }
 {
     if sum.0 <= amount.0 {
-        return ExactShare {
-            whole: claim,
-            numerator: 0,
-            denominator: 1,
-        };
+        whole_share(claim)
+    } else {
+        partial_share(amount, claim, sum)
     }
+}
+
+fn whole_share(claim: Kwh) -> ExactShare
+    ensures { λ r. ⌜ Exactly (over (claim .0) 1) r ⌝ }
+{
+    ExactShare {
+        whole: claim,
+        numerator: 0,
+        denominator: 1,
+    }
+}
+
+fn partial_share(amount: Kwh, claim: Kwh, sum: Kwh) -> ExactShare
+    requires short { ⌜ amount .0 < sum .0 ⌝ }
+    ensures { λ r. ⌜ Exactly (over (amount .0 * claim .0) (sum .0)) r ⌝ }
+{
     let (whole, rest) = divided(amount, claim, sum);
     let common = common_divisor(rest, sum.0);
     ExactShare {

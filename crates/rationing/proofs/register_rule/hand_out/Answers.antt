@@ -1,14 +1,12 @@
-use Prim.Native.Nat.{_+_, _-_, _<_, _^_}
-use mathlib.Core.List.{_∷_, [], _++_, append-assoc}
-use mathlib.Core.Path.{_≡_, ap, sym, _∙_}
+use mathlib.Core.Path.{ap, _∙_}
 use native.Mathlib.Omega.{arith}
 use borrow.Author.Needs.{needs}
-use lib.ListN.{length, take, drop, getD, set}
-use Rattle.std.proofs.shelf.Lists.{take-more-set, take-all, at-drop-more, at-drop-all, append-nil}
+use lib.ListN.{getD}
+use Rattle.std.proofs.shelf.Lists.{take-all, at-drop-all, append-nil}
 use Rattle.std.proofs.shelf.Sums.{getD-le-sumBy}
 use Rattle.energy.specs.Units.{kwh}
-use Rattle.rationing.specs.Register.{handed}
-use Rattle.rationing.proofs.Handing.{odd-le-one}
+use Rattle.rationing.specs.Register.{handed, odd}
+use Rattle.rationing.proofs.Handing.{handed-more, odd-le-one}
 use Rattle.rationing.proofs.Rounding.{share-below}
 use Rattle.rationing.proofs.register_rule.hand_out.Needs as need
 
@@ -23,17 +21,10 @@ add-out c =
 
 pub loop-i-again : need.loop-i-again
 loop-i-again c =
-    let award = kwh (c .divided-whole .result .0 + c .odd-kwh-one .result) in
-    let share = handed (c .args .amount .0) (c .args .sum .0) in
-    let claims = c .args .claims .now in
-    let out = c .loop-i .out in
-    let i = c .loop-i .i in
-    let within : i < length out = omega arith in
-    let next = at-drop-more (share (c .loop-i .left)) claims i (kwh 0) (c .loop-i-test .taken) in
-    let front = take-more-set out i award within in
-    let rest = share (c .loop-i .left - c .odd-kwh-one .result) (drop (i + 1) claims) in
-    let joined = append-assoc (take i out) (award ∷ []) rest in
-    cc
+    handed-more (c .args .amount .0) (c .args .sum .0) (c .loop-i .left) (c .args .claims .now) (c .loop-i .out) (c .loop-i .i)
+    (c .divided-whole .result .0) (c .odd-kwh-one .result) (c .loop-i-test .taken) (omega arith) (c .divided-whole .ensures .whole)
+    (c .odd-kwh-one .ensures ∙ ap (odd (c .loop-i .left)) (c .divided-whole .ensures .rest))
+    ∙ c .loop-i .inv
 
 pub returns : need.returns
 returns c =
