@@ -1,4 +1,12 @@
 // What the user's words ask for.
+ghost use lib.Chars.{codes};
+ghost use mathlib.Core.Path.{_≡_};
+ghost use Rattle.std.specs.Of.String.{string-bytes};
+ghost use Rattle.std.specs.Vec.{made};
+ghost use Rattle.std.specs.declared.option.Option.the-variants.{Some, None};
+ghost use Rattle.std.specs.declared.result.Result.the-variants.{Ok};
+ghost use Rattle.tizgrel.specs.Names.{registerChosen, runningChosen};
+ghost use Rattle.tizgrel.specs.Numbers.{wholeNumber};
 use crate::complaint::Complaint;
 use crate::complaint::ComplaintFromAlloc;
 use crate::complaint::ComplaintFromRefused;
@@ -41,14 +49,29 @@ fn read_ration(heap: Global, words: &[String]) -> Result<Command, Complaint> {
 }
 
 fn read_rule(word: &String) -> Result<ChosenRule, Complaint> {
-    match word.as_str() {
-        "register" => Ok(ChosenRule::Register(RegisterRule)),
-        "running" => Ok(ChosenRule::Running(RunningRule)),
-        _ => Err(Complaint::UnknownRule(word.clone()?)),
+    match rule_named(word.as_str()) {
+        Some(rule) => Ok(rule),
+        None => Err(Complaint::UnknownRule(word.clone()?)),
     }
 }
 
-fn read_kwh(word: &String) -> Result<Kwh, Complaint> {
+/// The rule of that name.
+fn rule_named(word: &str) -> Option<ChosenRule>
+    ensures register { λ r. ⌜ (now (word .entry) ≡ codes "register" → r ≡ Some registerChosen) ⌝ }
+    ensures running { λ r. ⌜ (now (word .entry) ≡ codes "running" → r ≡ Some runningChosen) ⌝ }
+    ensures other { λ r. ⌜ ((now (word .entry) ≡ codes "register" → ⊥) → (now (word .entry) ≡ codes "running" → ⊥) → r ≡ None) ⌝ }
+{
+    match word {
+        "register" => Some(ChosenRule::Register(RegisterRule)),
+        "running" => Some(ChosenRule::Running(RunningRule)),
+        _ => None,
+    }
+}
+
+/// The energy that a word names in kWh.
+fn read_kwh(word: &String) -> Result<Kwh, Complaint>
+    ensures { λ r. ⌜ made r (λ energy. wholeNumber (string-bytes (now (word .entry))) ≡ Ok (energy .0)) ⌝ }
+{
     match whole_number(word.as_str()) {
         Ok(number) => Ok(Kwh(number)),
         Err(NumberFault::NotDigits) => Err(Complaint::NotANumber(word.clone()?)),
