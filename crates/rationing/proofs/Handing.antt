@@ -18,8 +18,8 @@ use Rattle.energy.specs.Totals.{sumKwh, sumOf}
 use Rattle.energy.specs.Units.{kwh}
 use Rattle.energy.proofs.Sums.{sum-le, sum-add, sum-times}
 use Rattle.rationing.specs.Quota.{Quota, Rounded}
-use Rattle.rationing.specs.Register.{down, over, odd, handed, spare, register}
-use Rattle.rationing.proofs.Quotas.{quota-split}
+use Rattle.rationing.specs.Register.{down, over, odd, handed, spare, handedOut, register}
+use Rattle.rationing.proofs.Quotas.{quota-divided}
 use Rattle.rationing.proofs.Rounding.{rounded-more}
 
 -- 1 for a claim whose division leaves a remainder
@@ -110,7 +110,7 @@ register-quota amount claims =
     let a = amount .0 in
     let s = sumKwh claims in
     let l = spare a claims in
-    quota-split amount claims (handed a s l claims) (handed-length a s l claims)
+    quota-divided handedOut amount claims (handed-length a s l claims)
     (λ h.
     let some : 0 < s = omega arith in
     let within = downs-le a s claims refl h in

@@ -15,8 +15,8 @@ use Rattle.energy.specs.Totals.{sumKwh}
 use Rattle.energy.specs.Units.{kwh}
 use Rattle.energy.proofs.Division.{div-le-add}
 use Rattle.rationing.specs.Quota.{Quota, Rounded}
-use Rattle.rationing.specs.Running.{upTo, stepAt, running}
-use Rattle.rationing.proofs.Quotas.{quota-split}
+use Rattle.rationing.specs.Running.{upTo, stepAt, dividedAlong, running}
+use Rattle.rationing.proofs.Quotas.{quota-divided}
 use Rattle.rationing.proofs.Rounding.{rounded-step}
 
 -- the claims up to and with one stay within the sum of all
@@ -56,7 +56,7 @@ running-quota amount claims =
     let a = amount .0 in
     let n = length claims in
     let f = stepAt a claims in
-    quota-split amount claims (map f (counting 0 n)) (length-map-counting f 0 n)
+    quota-divided dividedAlong amount claims (length-map-counting f 0 n)
     (λ h.
     let some : 0 < sumKwh claims = omega arith in
     let all = ap (λ (xs : List Kwh). a * sumKwh xs / sumKwh claims) (take-all n claims (omega arith)) in

@@ -1,8 +1,10 @@
 -- The quota law, which every rationing rule keeps.
 use Prim.Native.Nat.{ℕ, _+_, _-_, _*_, _/_, _<_, _≤_}
+use mathlib.Core.Bool.{cond}
 use mathlib.Core.List.{List}
 use mathlib.Core.Logic.{_⊎_}
 use mathlib.Core.Path.{_≡_}
+use lib.Dec.{leb}
 use lib.ListN.{length, getD}
 use Rattle.energy.specs.declared.unit.Kwh.{Kwh}
 use Rattle.energy.specs.Totals.{sumKwh}
@@ -26,3 +28,7 @@ pub record Quota (amount : Kwh) (claims awards : List Kwh) : Type 0 where
   pub whole : sumKwh claims ≤ amount .0 → awards ≡ claims
   pub used : amount .0 < sumKwh claims → sumKwh awards ≡ amount .0
   pub shared : amount .0 < sumKwh claims → (k : ℕ) → k < length claims → Rounded (amount .0 * getD claims k (kwh 0) .0) (sumKwh claims) (getD awards k (kwh 0) .0)
+
+-- A rule gives each its claim where the amount covers the claims, and divides a smaller amount in its own way.
+abbrev pub wholeOr : (Kwh → List Kwh → List Kwh) → Kwh → List Kwh → List Kwh
+wholeOr divide amount claims = cond (leb (sumKwh claims) (amount .0)) claims (divide amount claims)

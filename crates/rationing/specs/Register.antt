@@ -2,10 +2,11 @@
 use Prim.Native.Nat.{ℕ, _+_, _-_, _*_, _/_, _%_}
 use mathlib.Core.Bool.{_&&_, cond}
 use mathlib.Core.List.{List, [], _∷_}
-use lib.Dec.{leb, ltb}
+use lib.Dec.{ltb}
 use Rattle.energy.specs.declared.unit.Kwh.{Kwh}
 use Rattle.energy.specs.Totals.{sumKwh, sumOf}
 use Rattle.energy.specs.Units.{kwh}
+use Rattle.rationing.specs.Quota.{wholeOr}
 
 -- A claim's share of the amount rounded down, and the remainder of that division.
 abbrev pub down : ℕ → ℕ → Kwh → ℕ
@@ -27,6 +28,10 @@ handed amount all left (c ∷ cs) = kwh (down amount all c + odd left (over amou
 abbrev pub spare : ℕ → List Kwh → ℕ
 spare amount claims = amount - sumOf (down amount (sumKwh claims)) claims
 
--- An amount that covers the claims gives each its claim; a smaller one is handed out down the register.
+-- A smaller amount is handed out down the register.
+abbrev pub handedOut : Kwh → List Kwh → List Kwh
+handedOut amount claims = handed (amount .0) (sumKwh claims) (spare (amount .0) claims) claims
+
+-- The register rule.
 abbrev pub register : Kwh → List Kwh → List Kwh
-register amount claims = cond (leb (sumKwh claims) (amount .0)) claims (handed (amount .0) (sumKwh claims) (spare (amount .0) claims) claims)
+register = wholeOr handedOut

@@ -1,6 +1,7 @@
 // Sharing an amount of energy out among claims, in whole kWh.
 mod admission;
 mod chosen_rule;
+mod dividing;
 mod division;
 mod refusal;
 mod register_rule;

@@ -3,8 +3,9 @@ ghost use Prim.Native.Nat.{_<_};
 ghost use lib.ListN.{length};
 ghost use mathlib.Core.Path.{_≡_};
 ghost use Rattle.energy.specs.Totals.{sumKwh};
-ghost use Rattle.rationing.specs.Register.{register, handed, spare, odd};
-use crate::admission::admitted_sum;
+ghost use Rattle.rationing.specs.Register.{register, handedOut, handed, spare, odd};
+use crate::dividing::Dividing;
+use crate::dividing::ration_by;
 use crate::division::divided;
 use crate::refusal::RationingRefusal;
 use crate::rule::RationingRule;
@@ -19,13 +20,15 @@ pub impl RationingRule for RegisterRule as RegisterRationing {
     ghost awards = { λ _. register };
 
     fn ration(&self, amount: Kwh, claims: &[Kwh], out: &mut [Kwh]) -> Result<(), RationingRefusal> {
-        let sum = admitted_sum(claims, out.len())?;
-        if sum.0 <= amount.0 {
-            out.copy_from_slice(claims);
-        } else {
-            hand_out(amount, sum, claims, out);
-        }
-        Ok(())
+        ration_by(self, amount, claims, out)
+    }
+}
+
+impl Dividing for RegisterRule as RegisterDividing {
+    ghost divides = { λ _. handedOut };
+
+    fn divide(&self, amount: Kwh, sum: Kwh, claims: &[Kwh], out: &mut [Kwh]) {
+        hand_out(amount, sum, claims, out);
     }
 }
 

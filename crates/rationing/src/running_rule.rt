@@ -1,12 +1,11 @@
 // The running rule: the amount is divided along the running sum of the claims.
 ghost use Prim.Native.Nat.{_+_, _*_, _/_, _<_, _≤_};
 ghost use lib.ListN.{length};
-ghost use mathlib.Core.List.{map};
 ghost use mathlib.Core.Path.{_≡_};
-ghost use Rattle.std.specs.Iters.{counting};
 ghost use Rattle.energy.specs.Totals.{sumKwh};
-ghost use Rattle.rationing.specs.Running.{running, stepAt};
-use crate::admission::admitted_sum;
+ghost use Rattle.rationing.specs.Running.{running, dividedAlong};
+use crate::dividing::Dividing;
+use crate::dividing::ration_by;
 use crate::division::divided;
 use crate::refusal::RationingRefusal;
 use crate::rule::RationingRule;
@@ -20,13 +19,15 @@ pub impl RationingRule for RunningRule as RunningRationing {
     ghost awards = { λ _. running };
 
     fn ration(&self, amount: Kwh, claims: &[Kwh], out: &mut [Kwh]) -> Result<(), RationingRefusal> {
-        let sum = admitted_sum(claims, out.len())?;
-        if sum.0 <= amount.0 {
-            out.copy_from_slice(claims);
-        } else {
-            divide_along(amount, sum, claims, out);
-        }
-        Ok(())
+        ration_by(self, amount, claims, out)
+    }
+}
+
+impl Dividing for RunningRule as RunningDividing {
+    ghost divides = { λ _. dividedAlong };
+
+    fn divide(&self, amount: Kwh, sum: Kwh, claims: &[Kwh], out: &mut [Kwh]) {
+        divide_along(amount, sum, claims, out);
     }
 }
 
@@ -35,7 +36,7 @@ fn divide_along(amount: Kwh, sum: Kwh, claims: &[Kwh], out: &mut [Kwh])
     requires short { ⌜ amount .0 < sum .0 ⌝ }
     requires summed { ⌜ sum .0 ≡ sumKwh (now claims) ⌝ }
     requires long { ⌜ length (now out) ≡ length (now claims) ⌝ }
-    ensures { λ _. ⌜ now (out .exit) ≡ map (stepAt (amount .0) (now (claims .entry))) (counting 0 (length (now (claims .entry)))) ⌝ }
+    ensures { λ _. ⌜ now (out .exit) ≡ dividedAlong amount (now (claims .entry)) ⌝ }
 {
     let mut claimed = 0;
     let mut before = 0;
