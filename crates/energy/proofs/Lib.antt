@@ -1,3 +1,4 @@
 pub mod Division
+pub mod Grids
 pub mod Sums
 pub mod Totals

@@ -1,3 +1,4 @@
-pub mod Units
 pub mod Directions
+pub mod Grids
 pub mod Totals
+pub mod Units

@@ -1,0 +1,10 @@
+// The allocated trades of a period, and the laws of flow and of service.
+ghost use Rattle.allocation.specs.Laws.{LawOfFlow, FlowsMeet};
+
+/// The laws stand for every rule that keeps the quota law: a proof and no work.
+pub fn laws_stand() -> u8
+    ensures flow { λ _. ⌜ LawOfFlow ⌝ }
+    ensures meet { λ _. ⌜ FlowsMeet ⌝ }
+{
+    0
+}
