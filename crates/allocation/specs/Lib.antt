@@ -1,3 +1,5 @@
-pub mod Periods
 pub mod Allocation
+pub mod Cells
+pub mod Grids
 pub mod Laws
+pub mod Periods

@@ -1,5 +1,9 @@
 // The allocated trades of a period, and the laws of flow and of service.
+
 ghost use Rattle.allocation.specs.Laws.{LawOfFlow, FlowsMeet};
+
+mod cell;
+mod grid;
 
 /// The laws stand for every rule that keeps the quota law: a proof and no work.
 pub fn laws_stand() -> u8

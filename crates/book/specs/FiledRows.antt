@@ -29,8 +29,8 @@ sameKind Match Match = true
 -- A key is filer, kind, period and both parties: all but the amounts and the flag.
 abbrev pub filedUnder : FiledRow → FiledKey → Bool
 filedUnder x k =
-    sameSide (x .filer) (k .filer) && (sameKind (x .kind) (k .kind)
-    && (eqb (x .period) (k .period) && (eqb (x .north) (k .north) && eqb (x .south) (k .south))))
+    (eqb (x .period) (k .period) && (eqb (x .north) (k .north) && eqb (x .south) (k .south)))
+    && (sameKind (x .kind) (k .kind) && sameSide (x .filer) (k .filer))
 
 -- A book uses at most 4,096 rows of filed entries.
 abbrev pub filedMost : ℕ
