@@ -1,3 +1,4 @@
 pub mod Awards
+pub mod Filling
 pub mod Flow
 pub mod Gathering

@@ -3,3 +3,5 @@ pub mod Cells
 pub mod Grids
 pub mod Laws
 pub mod Periods
+pub mod Told
+pub mod Trades

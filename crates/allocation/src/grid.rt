@@ -6,16 +6,10 @@ use crate::cell::Cell;
 use crate::cell::EMPTY;
 use book::FiledRow;
 
-/// The filings of a period: a cell for each Northern and each Southern party.
-#[derive(Clone, Copy)]
-pub struct FiledGrid {
-    pub cells: [[Cell; 16]; 16],
-}
-
-/// The filings of a period, in one pass. It goes from the last row to the first, so that the first
+/// The filings of a period, a cell for each Northern and each Southern party, in one pass. It goes from the last row to the first, so that the first
 /// entry under a key is the one that stays.
-pub fn filed_grid(rows: &[FiledRow], period: u8) -> FiledGrid
-    ensures { λ r. ⌜ cellIn (r .cells) ≡ cellOf (now (rows .entry)) period ⌝ }
+pub fn filed_grid(rows: &[FiledRow], period: u8) -> [[Cell; 16]; 16]
+    ensures { λ r. ⌜ cellIn r ≡ cellOf (now (rows .entry)) period ⌝ }
 {
     let mut cells = [[EMPTY; 16]; 16];
     let mut k = rows.len();
@@ -28,7 +22,7 @@ pub fn filed_grid(rows: &[FiledRow], period: u8) -> FiledGrid
             cells[north][south] = cells[north][south].with(&row);
         }
     }
-    FiledGrid { cells }
+    cells
 }
 
 /// Whether a row stands for an entry of this period.

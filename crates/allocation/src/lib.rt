@@ -4,6 +4,7 @@ ghost use Rattle.allocation.specs.Laws.{LawOfFlow, FlowsMeet};
 
 mod cell;
 mod grid;
+mod told;
 
 /// The laws stand for every rule that keeps the quota law: a proof and no work.
 pub fn laws_stand() -> u8
