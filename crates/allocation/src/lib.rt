@@ -4,6 +4,8 @@ ghost use Rattle.allocation.specs.Laws.{LawOfFlow, FlowsMeet};
 
 mod cell;
 mod grid;
+mod matching;
+mod square;
 mod told;
 
 /// The laws stand for every rule that keeps the quota law: a proof and no work.
