@@ -1,0 +1,4 @@
+pub mod Calendar
+pub mod Weekdays
+pub mod Dates
+pub mod Periods
