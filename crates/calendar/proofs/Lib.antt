@@ -1,2 +1,3 @@
-pub mod Months
-pub mod Weeks
+mod Following
+mod Months
+mod Weeks

@@ -12,3 +12,6 @@ month-days-le y m = grind (arith, tells)
 
 pub before-more : (k : ℕ) → daysBefore (k + 1) ≡ daysBefore k + countedMonthDays k
 before-more k = ap daysBefore (add-one k)
+
+pub month-days-some : (y m : ℕ) → 1 ≤ monthDays y m
+month-days-some y m = grind (arith, tells)

@@ -1,6 +1,7 @@
 // The days of the week.
 ghost use Prim.Native.Nat.{_<_};
 ghost use mathlib.Core.Path.{_≡_};
+ghost use Rattle.calendar.specs.Columns.{weekend};
 ghost use Rattle.calendar.specs.Weekdays.{onward};
 
 /// A day of the week.
@@ -13,6 +14,15 @@ pub enum Weekday {
     Friday,
     Saturday,
     Sunday,
+}
+
+impl Weekday {
+    /// Whether it is Saturday or Sunday.
+    pub fn is_weekend(self) -> bool
+        ensures { λ r. ⌜ r ≡ weekend self ⌝ }
+    {
+        matches!(self, Weekday::Saturday | Weekday::Sunday)
+    }
 }
 
 /// The weekday so many days after a Tuesday.

@@ -4,6 +4,7 @@ ghost use mathlib.Core.Path.{_≡_};
 ghost use Rattle.std.specs.Options.{mapped};
 ghost use Rattle.calendar.specs.Calendar.{leap, monthDays, dateNamed, numbered};
 ghost use Rattle.calendar.specs.Dates.{calendarDay};
+ghost use Rattle.calendar.specs.Seasons.{placeOf};
 ghost use Rattle.calendar.specs.Weekdays.{daysBefore, weekdayOf};
 use crate::date::Date;
 use crate::weekday::Weekday;
@@ -78,5 +79,12 @@ impl Date {
     {
         let months = 12 * self.year as u32 + self.month as u32 - APRIL_2003;
         after_tuesday(days_before(months) + self.day as u32 - 1)
+    }
+
+    /// The date's place in its year: the number MMDD.
+    pub(crate) fn place_in_year(self) -> u16
+        ensures { λ r. ⌜ r ≡ placeOf (calendarDay self) ⌝ }
+    {
+        100 * self.month as u16 + self.day as u16
     }
 }

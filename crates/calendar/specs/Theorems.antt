@@ -1,0 +1,33 @@
+-- What stands of the calendar as a whole.
+use Prim.Native.Nat.{_≤_}
+use mathlib.Core.Bool.{true, false}
+use mathlib.Core.Path.{_≡_}
+use Rattle.calendar.specs.Calendar.{CalendarDay, dated, numbered, inCalendar, following}
+use Rattle.calendar.specs.Columns.{columnOf}
+use Rattle.calendar.specs.Periods.{rowOf}
+use Rattle.calendar.specs.Seasons.{spillSeasonOf, makeupSeasonOf}
+use Rattle.calendar.specs.Weekdays.{dayAfter, weekdayOf}
+use Rattle.calendar.specs.declared.column.FactorColumn.the-variants.{AprilOctoberWorkday}
+use Rattle.calendar.specs.declared.length.DayLength.the-variants.{Normal}
+use Rattle.calendar.specs.declared.season.SpillSeason.the-variants.{Winter as SpillWinter}
+use Rattle.calendar.specs.declared.season.MakeupSeason.the-variants.{Summer as MakeupSummer}
+use Rattle.calendar.specs.declared.weekday.Weekday.the-variants.{Tuesday, Friday}
+
+-- From 1 April 2003 on, the day after any day has the weekday after its weekday.
+abbrev pub Consecutive : Type 0
+Consecutive = (d : CalendarDay) → 20030401 ≤ numbered d → inCalendar d ≡ true → weekdayOf (following d) ≡ dayAfter (weekdayOf d)
+
+-- The day after a day that the calendar has is a day that the calendar has.
+abbrev pub Unbroken : Type 0
+Unbroken = (d : CalendarDay) → inCalendar d ≡ true → inCalendar (following d) ≡ true
+
+-- 1 April 2003 is a Tuesday. 15 October 2004 is a Friday, of winter for spill and of summer for
+-- makeup, and as a working day it has the column of April and October; period 16 of a normal day has row 28.
+abbrev pub Worked : Type 0
+Worked =
+    (weekdayOf (dated 2003 4 1) ≡ Tuesday)
+    × (weekdayOf (dated 2004 10 15) ≡ Friday)
+    × (spillSeasonOf (dated 2004 10 15) ≡ SpillWinter)
+    × (makeupSeasonOf (dated 2004 10 15) ≡ MakeupSummer)
+    × (columnOf (dated 2004 10 15) false ≡ AprilOctoberWorkday)
+    × (rowOf Normal 16 ≡ 28)
