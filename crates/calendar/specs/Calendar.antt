@@ -11,6 +11,7 @@ pub record CalendarDay : Type 0 where
   pub month : ℕ
   pub day : ℕ
 
+-- The day with a year, a month and a day of the month.
 abbrev pub dated : ℕ → ℕ → ℕ → CalendarDay
 dated y m d = record { year = y; month = m; day = d }
 
@@ -36,7 +37,7 @@ dayNamed n = dated (n / 10000) (n / 100 % 100) (n % 100)
 
 -- A trading day can start from 1 April 2003 to 31 December 2099, on each day that the calendar has.
 abbrev pub isDate : ℕ → Bool
-isDate n = (leb 20030401 n && leb n 20991231) && inCalendar (dayNamed n)
+isDate n = (leb 2003_04_01 n && leb n 2099_12_31) && inCalendar (dayNamed n)
 
 -- The date that a number names, where it is one.
 abbrev pub dateNamed : ℕ → Option CalendarDay

@@ -20,25 +20,25 @@ weekend Friday = false
 weekend Saturday = true
 weekend Sunday = true
 
--- A day is a working day when it is none of the weekend and, as the flag tells, no public holiday.
+-- A working day is one of Monday to Friday that the flag does not mark as a public holiday.
 abbrev pub working : CalendarDay → Bool → Bool
 working d publicHoliday = not publicHoliday && not (weekend (weekdayOf d))
 
 -- A working day of summer is of May to September, or else of April or October; each other day of
 -- summer has one column.
 abbrev pub summerColumn : CalendarDay → Bool → FactorColumn
-summerColumn d works = cond works (cond (between 501 930 d) MaySeptemberWorkday AprilOctoberWorkday) OtherSummerDay
+summerColumn d works = cond works (cond (between 5_01 9_30 d) MaySeptemberWorkday AprilOctoberWorkday) OtherSummerDay
 
 -- A working day of winter that is not of the year end is of the winter peak, or else of the rest of
 -- winter; each other day of winter, and every day of the year end, has one column.
 abbrev pub winterColumn : CalendarDay → Bool → FactorColumn
 winterColumn d works = cond (works && not (atYearEnd d)) (cond (atWinterPeak d) WinterPeakWorkday OtherWinterWorkday) OtherWinterDay
 
--- The column of a day by its makeup season.
+-- A day of summer has a column of summer, and a day of winter one of winter.
 abbrev pub seasonColumn : MakeupSeason → CalendarDay → Bool → FactorColumn
 seasonColumn Summer d works = summerColumn d works
 seasonColumn Winter d works = winterColumn d works
 
--- The column of a day, by the flag that tells whether it is a public holiday.
+-- The column of a day, by its makeup season and by whether it is a working day.
 abbrev pub columnOf : CalendarDay → Bool → FactorColumn
 columnOf d publicHoliday = seasonColumn (makeupSeasonOf d) d (working d publicHoliday)

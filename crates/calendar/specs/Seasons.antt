@@ -18,16 +18,16 @@ between from to d = leb from (placeOf d) && leb (placeOf d) to
 
 -- For spill, summer is from 1 April to 30 September, and the rest of the year is winter.
 abbrev pub spillSeasonOf : CalendarDay → SpillSeason
-spillSeasonOf d = cond (between 401 930 d) SpillSummer SpillWinter
+spillSeasonOf d = cond (between 4_01 9_30 d) SpillSummer SpillWinter
 
 -- For makeup, summer is from 1 April to 31 October, and the rest of the year is winter.
 abbrev pub makeupSeasonOf : CalendarDay → MakeupSeason
-makeupSeasonOf d = cond (between 401 1031 d) MakeupSummer MakeupWinter
+makeupSeasonOf d = cond (between 4_01 10_31 d) MakeupSummer MakeupWinter
 
 -- The winter peak is from 22 November to 21 February.
 abbrev pub atWinterPeak : CalendarDay → Bool
-atWinterPeak d = between 1122 1231 d || between 101 221 d
+atWinterPeak d = between 11_22 12_31 d || between 1_01 2_21 d
 
 -- The year end is from 24 December to 1 January.
 abbrev pub atYearEnd : CalendarDay → Bool
-atYearEnd d = between 1224 1231 d || between 101 101 d
+atYearEnd d = between 12_24 12_31 d || between 1_01 1_01 d

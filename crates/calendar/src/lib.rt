@@ -3,6 +3,7 @@ mod column;
 mod date;
 mod day;
 mod length;
+mod month;
 mod period;
 mod row;
 mod season;

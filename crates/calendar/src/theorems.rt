@@ -1,10 +1,12 @@
 // What is proved of the calendar as a whole.
-ghost use Rattle.calendar.specs.Theorems.{Consecutive, Unbroken, Worked};
+ghost use Rattle.calendar.specs.Theorems.{Faithful, Consecutive, Unbroken, Round, Worked};
 
 /// The calendar's theorems stand: a proof and no work, so that the crate fails without them.
 pub fn calendar_stands() -> u8
+    ensures faithful { λ _. ⌜ Faithful ⌝ }
     ensures consecutive { λ _. ⌜ Consecutive ⌝ }
     ensures unbroken { λ _. ⌜ Unbroken ⌝ }
+    ensures round { λ _. ⌜ Round ⌝ }
     ensures worked { λ _. ⌜ Worked ⌝ }
 {
     0

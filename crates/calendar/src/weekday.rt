@@ -18,7 +18,7 @@ pub enum Weekday {
 
 impl Weekday {
     /// Whether it is Saturday or Sunday.
-    pub fn is_weekend(self) -> bool
+    pub(crate) fn is_weekend(self) -> bool
         ensures { λ r. ⌜ r ≡ weekend self ⌝ }
     {
         matches!(self, Weekday::Saturday | Weekday::Sunday)

@@ -1,7 +1,7 @@
 use Prim.Native.Nat.{_+_, _/_, _%_}
 use native.Mathlib.Omega.{arith}
 use Rattle.calendar.proofs.Months.{before-more, month-days-le}
-use Rattle.calendar.proofs.date.calls.days_before.Needs as need
+use Rattle.calendar.proofs.month.days_before.Needs as need
 
 pub loop-k-again : need.loop-k-again
 loop-k-again c =
