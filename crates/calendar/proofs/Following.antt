@@ -1,11 +1,10 @@
 -- The day after a day: the calendar has it, and it has the next weekday.
-use Prim.Native.Nat.{ℕ, _+_, _-_, _*_, _/_, _%_, _<_, _≤_}
-use mathlib.Core.Bool.{true, false, _&&_, cond}
+use Prim.Native.Nat.{ℕ, _+_, _*_, _/_, _%_, _<_, _≤_}
+use mathlib.Core.Bool.{true}
 use mathlib.Core.Logic.{⊎-elim}
-use mathlib.Core.Path.{_≡_, refl, ap, sym, _∙_}
+use mathlib.Core.Path.{_≡_, refl, ap, _∙_}
 use native.Mathlib.Numerals.{add-one}
 use native.Mathlib.Omega.{arith}
-use lib.Dec.{leb, ltb}
 use Rattle.std.proofs.shelf.Tests.{and-parts, and-from, leb-true, le-leb, ltb-true, ltb-false, cases-lt, cond-both}
 use Rattle.calendar.specs.Calendar.{CalendarDay, dated, monthDays, numbered, inCalendar, following}
 use Rattle.calendar.specs.Theorems.{Consecutive, Unbroken}
@@ -13,11 +12,12 @@ use Rattle.calendar.specs.Weekdays.{monthCount, countedMonthDays, daysBefore, 
 use Rattle.calendar.specs.declared.weekday.Weekday.the-variants.{Tuesday}
 use Rattle.calendar.proofs.Months.{month-days-le, month-days-some, before-more}
 
-record Has (d : CalendarDay) : Type 0 where
-  january : 1 ≤ d .month
-  december : d .month ≤ 12
-  first : 1 ≤ d .day
-  last : d .day ≤ monthDays (d .year) (d .month)
+-- the parts of that the calendar has a day
+pub record Has (d : CalendarDay) : Type 0 where
+  pub january : 1 ≤ d .month
+  pub december : d .month ≤ 12
+  pub first : 1 ≤ d .day
+  pub last : d .day ≤ monthDays (d .year) (d .month)
 
 has : (d : CalendarDay) → inCalendar d ≡ true → Has d
 has d e =
@@ -25,7 +25,7 @@ has d e =
     let days = and-parts _ _ (and-parts _ _ e .1) in
     record { january = leb-true _ _ (months .0); december = leb-true _ _ (months .1); first = leb-true _ _ (days .0); last = leb-true _ _ (days .1) }
 
-has-all : (d : CalendarDay) → Has d → inCalendar d ≡ true
+pub has-all : (d : CalendarDay) → Has d → inCalendar d ≡ true
 has-all d h =
     and-from _ _ (and-from _ _ (le-leb _ _ (h .january)) (le-leb _ _ (h .december)))
     (and-from _ _ (le-leb _ _ (h .first)) (le-leb _ _ (h .last)))
@@ -48,14 +48,11 @@ unbroken d e =
     (λ l m. has-all (dated (d .year) (d .month + 1) 1) (record { january = omega arith; december = omega arith; first = omega arith; last = month-days-some (d .year) (d .month + 1) }))
     (λ l m. refl)
 
-module _ (d : CalendarDay) (late : 20030401 ≤ numbered d) (h : Has d) where
+module _ (d : CalendarDay) (late : 2003_04_01 ≤ numbered d) (h : Has d) where
   -- no day before April 2003 has such a number
   since-april : 12 * 2003 + 4 ≤ 12 * d .year + d .month
   since-april =
       let most = month-days-le (d .year) (d .month) in
-      let january = h .january in
-      let december = h .december in
-      let last = h .last in
       ⊎-elim (λ (y : d .year < 2003). omega arith)
       (λ y. ⊎-elim (λ (z : d .year < 2004). omega arith) (λ z. omega arith) (cases-lt (d .year) 2004))
       (cases-lt (d .year) 2003)
@@ -63,8 +60,6 @@ module _ (d : CalendarDay) (late : 20030401 ≤ numbered d) (h : Has d) where
   same-month : countedMonthDays (monthCount d) ≡ monthDays (d .year) (d .month)
   same-month =
       let after = since-april in
-      let january = h .january in
-      let december = h .december in
       let year : 2003 + (monthCount d + 3) / 12 ≡ d .year = omega arith in
       let month : (monthCount d + 3) % 12 + 1 ≡ d .month = omega arith in
       ap (λ (y : ℕ). monthDays y ((monthCount d + 3) % 12 + 1)) year ∙ ap (monthDays (d .year)) month
@@ -72,15 +67,11 @@ module _ (d : CalendarDay) (late : 20030401 ≤ numbered d) (h : Has d) where
   -- the first of the next month comes after all days of this one
   next-month : (k : ℕ) → k ≡ monthCount d + 1 → monthDays (d .year) (d .month) ≤ d .day → daysBefore k + 0 ≡ daysSince d + 1
   next-month k e l =
-      let first = h .first in
-      let last = h .last in
       omega (arith, ap daysBefore e, before-more (monthCount d), same-month)
 
   one-more : daysSince (following d) ≡ daysSince d + 1
   one-more =
       let after = since-april in
-      let first = h .first in
-      let december = h .december in
       by-kind d (λ f. daysSince f ≡ daysSince d + 1) (λ l. omega arith)
       (λ l m. next-month _ (omega arith) l)
       (λ l m. next-month _ (omega arith) l)

@@ -22,11 +22,15 @@ leap y = (eqb (y % 4) 0 && not (eqb (y % 100) 0)) || eqb (y % 400) 0
 -- February has 29 days in a leap year and 28 in any other; April, June, September and November
 -- have 30 days; each other month has 31.
 abbrev pub monthDays : ℕ → ℕ → ℕ
-monthDays y m = cond (eqb m 2) (cond (leap y) 29 28) (cond ((eqb m 4 || eqb m 6) || (eqb m 9 || eqb m 11)) 30 31)
+monthDays y m =
+    cond (eqb m 2) (cond (leap y) 29 28)
+    (cond ((eqb m 4 || eqb m 6) || (eqb m 9 || eqb m 11)) 30 31)
 
 -- The calendar has a day when its month is 1 to 12 and its day is 1 to the month's days.
 abbrev pub inCalendar : CalendarDay → Bool
-inCalendar d = (leb 1 (d .month) && leb (d .month) 12) && (leb 1 (d .day) && leb (d .day) (monthDays (d .year) (d .month)))
+inCalendar d =
+    (leb 1 (d .month) && leb (d .month) 12)
+    && (leb 1 (d .day) && leb (d .day) (monthDays (d .year) (d .month)))
 
 -- The number YYYYMMDD of a day, and the day that such a number names.
 abbrev pub numbered : CalendarDay → ℕ
@@ -46,4 +50,6 @@ dateNamed n = cond (isDate n) (Some (dayNamed n)) None
 -- The day after: the next day of the month, after its last day the first of the next month, and
 -- after the last day of December 1 January.
 abbrev pub following : CalendarDay → CalendarDay
-following d = cond (ltb (d .day) (monthDays (d .year) (d .month))) (dated (d .year) (d .month) (d .day + 1)) (cond (ltb (d .month) 12) (dated (d .year) (d .month + 1) 1) (dated (d .year + 1) 1 1))
+following d =
+    cond (ltb (d .day) (monthDays (d .year) (d .month))) (dated (d .year) (d .month) (d .day + 1))
+    (cond (ltb (d .month) 12) (dated (d .year) (d .month + 1) 1) (dated (d .year + 1) 1 1))

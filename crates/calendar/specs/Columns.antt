@@ -27,12 +27,14 @@ working d publicHoliday = not publicHoliday && not (weekend (weekdayOf d))
 -- A working day of summer is of May to September, or else of April or October; each other day of
 -- summer has one column.
 abbrev pub summerColumn : CalendarDay → Bool → FactorColumn
-summerColumn d works = cond works (cond (between 5_01 9_30 d) MaySeptemberWorkday AprilOctoberWorkday) OtherSummerDay
+summerColumn d works =
+    cond works (cond (between 5_01 9_30 d) MaySeptemberWorkday AprilOctoberWorkday) OtherSummerDay
 
 -- A working day of winter that is not of the year end is of the winter peak, or else of the rest of
 -- winter; each other day of winter, and every day of the year end, has one column.
 abbrev pub winterColumn : CalendarDay → Bool → FactorColumn
-winterColumn d works = cond (works && not (atYearEnd d)) (cond (atWinterPeak d) WinterPeakWorkday OtherWinterWorkday) OtherWinterDay
+winterColumn d works =
+    cond (works && not (atYearEnd d)) (cond (atWinterPeak d) WinterPeakWorkday OtherWinterWorkday) OtherWinterDay
 
 -- A day of summer has a column of summer, and a day of winter one of winter.
 abbrev pub seasonColumn : MakeupSeason → CalendarDay → Bool → FactorColumn

@@ -15,20 +15,22 @@ periodsOf Long = 50
 
 -- The length of a day by its number of periods: no day has another number.
 abbrev pub lengthWith : ℕ → Option DayLength
-lengthWith n = cond (eqb n 46) (Some Short) (cond (eqb n 48) (Some Normal) (cond (eqb n 50) (Some Long) None))
+lengthWith n =
+    cond (eqb n 46) (Some Short)
+    (cond (eqb n 48) (Some Normal) (cond (eqb n 50) (Some Long) None))
 
--- A day's periods are numbered from 1 to their number.
+-- A day has the period with a number when that is from 1 to the number of its periods.
 abbrev pub periodNumbered : DayLength → ℕ → Option ℕ
 periodNumbered l k = cond (leb 1 k && leb k (periodsOf l)) (Some k) None
 
--- The period of a normal day that is at the same time of day as a period: on a short day those from
--- 39 on are two later, on a long day those from 41 on two earlier.
+-- The period of a normal day with the row of a period: on a short day two more from period 39 on,
+-- on a long day two less from period 41 on, and else the same.
 abbrev pub normalPeriod : DayLength → ℕ → ℕ
 normalPeriod Short k = cond (leb 39 k) (k + 2) k
 normalPeriod Normal k = k
 normalPeriod Long k = cond (leb 41 k) (k - 2) k
 
--- Row n of the table is the half hour that ends n half hours after midnight, and a normal day's
--- first period starts at 06:00: the row of a period.
+-- Row n is the half hour that ends n half hours after midnight, and a day's first period starts at
+-- 06:00: the row of a period of a normal day is its number moved on by 12, round the 48 rows.
 abbrev pub rowOf : DayLength → ℕ → ℕ
 rowOf l k = (normalPeriod l k + 11) % 48 + 1

@@ -2,7 +2,8 @@
 use Prim.Native.Nat.{ℕ, _≤_}
 use mathlib.Core.Bool.{true, false}
 use mathlib.Core.Path.{_≡_}
-use Rattle.calendar.specs.Calendar.{CalendarDay, dated, numbered, dayNamed, inCalendar, following}
+use Rattle.std.specs.declared.option.Option.the-variants.{Some}
+use Rattle.calendar.specs.Calendar.{CalendarDay, dated, numbered, dayNamed, dateNamed, inCalendar, following}
 use Rattle.calendar.specs.Columns.{columnOf}
 use Rattle.calendar.specs.Periods.{periodsOf, rowOf}
 use Rattle.calendar.specs.Seasons.{spillSeasonOf, makeupSeasonOf}
@@ -20,7 +21,9 @@ Faithful = (n : ℕ) → numbered (dayNamed n) ≡ n
 
 -- From 1 April 2003 on, the day after any day has the weekday after its weekday.
 abbrev pub Consecutive : Type 0
-Consecutive = (d : CalendarDay) → 2003_04_01 ≤ numbered d → inCalendar d ≡ true → weekdayOf (following d) ≡ dayAfter (weekdayOf d)
+Consecutive =
+    (d : CalendarDay) → 2003_04_01 ≤ numbered d → inCalendar d ≡ true
+    → weekdayOf (following d) ≡ dayAfter (weekdayOf d)
 
 -- The day after a day that the calendar has is a day that the calendar has.
 abbrev pub Unbroken : Type 0
@@ -30,11 +33,12 @@ Unbroken = (d : CalendarDay) → inCalendar d ≡ true → inCalendar (following
 abbrev pub Round : Type 0
 Round = (l : DayLength) → (rowOf l 1 ≡ 13) × (rowOf l (periodsOf l) ≡ 12)
 
--- 1 April 2003 is a Tuesday. 15 October 2004 is a Friday, of winter for spill and of summer for
+-- 1 April 2003 is a Tuesday. The number 20041015 names 15 October 2004, which is a Friday, of winter for spill and of summer for
 -- makeup, and as a working day it has the column of April and October; period 16 of a normal day has row 28.
 abbrev pub Worked : Type 0
 Worked =
     (weekdayOf (dated 2003 4 1) ≡ Tuesday)
+    × (dateNamed 2004_10_15 ≡ Some (dated 2004 10 15))
     × (weekdayOf (dated 2004 10 15) ≡ Friday)
     × (spillSeasonOf (dated 2004 10 15) ≡ SpillWinter)
     × (makeupSeasonOf (dated 2004 10 15) ≡ MakeupSummer)

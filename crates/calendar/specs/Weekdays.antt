@@ -19,15 +19,15 @@ abbrev pub onward : Weekday → ℕ → Weekday
 onward w zero = w
 onward w (suc n) = dayAfter (onward w n)
 
--- Months are counted from April 2003, which has the count 0: the count of a day's month.
+-- How many months after April 2003 a day's month comes.
 abbrev pub monthCount : CalendarDay → ℕ
 monthCount d = (12 * d .year + d .month) - (12 * 2003 + 4)
 
--- The days of the month with a count.
+-- The days of the month that comes k months after April 2003, and so k + 3 after January 2003.
 abbrev pub countedMonthDays : ℕ → ℕ
 countedMonthDays k = monthDays (2003 + (k + 3) / 12) ((k + 3) % 12 + 1)
 
--- The days of all months before the one with a count.
+-- The days of the k months from April 2003 on.
 abbrev pub daysBefore : ℕ → ℕ
 daysBefore zero = 0
 daysBefore (suc k) = daysBefore k + countedMonthDays k
@@ -36,6 +36,6 @@ daysBefore (suc k) = daysBefore k + countedMonthDays k
 abbrev pub daysSince : CalendarDay → ℕ
 daysSince d = daysBefore (monthCount d) + (d .day - 1)
 
--- 1 April 2003 was a Tuesday, and each day since then has the weekday after that of the day before.
+-- A day's weekday is so many days after Tuesday as the day is after 1 April 2003, which was a Tuesday.
 abbrev pub weekdayOf : CalendarDay → Weekday
 weekdayOf d = onward Tuesday (daysSince d)

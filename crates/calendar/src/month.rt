@@ -23,7 +23,7 @@ pub fn days_in_month(year: u16, month: u8) -> u8
     }
 }
 
-/// The days of all months from April 2003 on before the one with this count.
+/// The days of so many months from April 2003 on.
 pub fn days_before(months: u32) -> u32
     requires { ⌜ months ≤ 1200 ⌝ }
     ensures counted { λ r. ⌜ r ≡ daysBefore months ⌝ }

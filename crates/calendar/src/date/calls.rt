@@ -2,10 +2,10 @@
 ghost use mathlib.Core.Path.{_≡_};
 ghost use Rattle.std.specs.Options.{mapped};
 ghost use Rattle.std.specs.declared.option.Option.the-variants.{Some};
-ghost use Rattle.calendar.specs.Calendar.{dateNamed, numbered};
+ghost use Rattle.calendar.specs.Calendar.{dateNamed, numbered, following};
 ghost use Rattle.calendar.specs.Dates.{calendarDay};
 ghost use Rattle.calendar.specs.Seasons.{placeOf};
-ghost use Rattle.calendar.specs.Weekdays.{weekdayOf};
+ghost use Rattle.calendar.specs.Weekdays.{dayAfter, daysSince, weekdayOf};
 use crate::date::Date;
 use crate::month::days_before;
 use crate::month::days_in_month;
@@ -44,12 +44,20 @@ impl Date {
         10_000 * self.year as u32 + 100 * self.month as u32 + self.day as u32
     }
 
-    /// The date's day of the week.
+    /// The date's day of the week; the day after has the next one.
     pub fn weekday(self) -> Weekday
-        ensures { λ r. ⌜ r ≡ weekdayOf (calendarDay self) ⌝ }
+        ensures value { λ r. ⌜ r ≡ weekdayOf (calendarDay self) ⌝ }
+        ensures next { λ r. ⌜ weekdayOf (following (calendarDay self)) ≡ dayAfter r ⌝ }
+    {
+        after_tuesday(self.days_since_april())
+    }
+
+    /// The days from 1 April 2003, a Tuesday, to the date.
+    fn days_since_april(self) -> u32
+        ensures { λ r. ⌜ r ≡ daysSince (calendarDay self) ⌝ }
     {
         let months = 12 * self.year as u32 + self.month as u32 - APRIL_2003;
-        after_tuesday(days_before(months) + self.day as u32 - 1)
+        days_before(months) + self.day as u32 - 1
     }
 
     /// The date's place in its year: the number MMDD.

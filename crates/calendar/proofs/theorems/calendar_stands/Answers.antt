@@ -17,5 +17,5 @@ returns c =
       consecutive = consecutive;
       unbroken = unbroken;
       round = whole-round;
-      worked = (refl, refl, refl, refl, refl, refl);
+      worked = (refl, refl, refl, refl, refl, refl, refl);
     }
