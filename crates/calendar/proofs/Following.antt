@@ -12,7 +12,7 @@ use Rattle.calendar.specs.Weekdays.{monthCount, countedMonthDays, daysBefore, 
 use Rattle.calendar.specs.declared.weekday.Weekday.the-variants.{Tuesday}
 use Rattle.calendar.proofs.Months.{month-days-le, month-days-some, before-more}
 
--- the parts of that the calendar has a day
+-- what it takes for the calendar to have a day
 pub record Has (d : CalendarDay) : Type 0 where
   pub january : 1 ≤ d .month
   pub december : d .month ≤ 12

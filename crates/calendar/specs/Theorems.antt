@@ -1,14 +1,14 @@
 -- What stands of the calendar as a whole.
 use Prim.Native.Nat.{ℕ, _≤_}
-use mathlib.Core.Bool.{true, false}
+use mathlib.Core.Bool.{Bool, true, false}
 use mathlib.Core.Path.{_≡_}
 use Rattle.std.specs.declared.option.Option.the-variants.{Some}
 use Rattle.calendar.specs.Calendar.{CalendarDay, dated, numbered, dayNamed, dateNamed, inCalendar, following}
 use Rattle.calendar.specs.Columns.{columnOf}
 use Rattle.calendar.specs.Periods.{periodsOf, rowOf}
-use Rattle.calendar.specs.Seasons.{spillSeasonOf, makeupSeasonOf}
+use Rattle.calendar.specs.Seasons.{atYearEnd, spillSeasonOf, makeupSeasonOf}
 use Rattle.calendar.specs.Weekdays.{dayAfter, weekdayOf}
-use Rattle.calendar.specs.declared.column.FactorColumn.the-variants.{AprilOctoberWorkday}
+use Rattle.calendar.specs.declared.column.FactorColumn.the-variants.{AprilOctoberWorkday, OtherWinterDay}
 use Rattle.calendar.specs.declared.length.DayLength.{DayLength}
 use Rattle.calendar.specs.declared.length.DayLength.the-variants.{Normal}
 use Rattle.calendar.specs.declared.season.SpillSeason.the-variants.{Winter as SpillWinter}
@@ -32,6 +32,10 @@ Unbroken = (d : CalendarDay) → inCalendar d ≡ true → inCalendar (following
 -- A day of any length begins with the half hour that ends at 06:30 and ends with the one that ends at 06:00.
 abbrev pub Round : Type 0
 Round = (l : DayLength) → (rowOf l 1 ≡ 13) × (rowOf l (periodsOf l) ≡ 12)
+
+-- Every day from 24 December to 1 January, a working day or not, has the column of winter's other days.
+abbrev pub YearEnd : Type 0
+YearEnd = (d : CalendarDay) (publicHoliday : Bool) → atYearEnd d ≡ true → columnOf d publicHoliday ≡ OtherWinterDay
 
 -- 1 April 2003 is a Tuesday. The number 20041015 names 15 October 2004, which is a Friday, of winter for spill and of summer for
 -- makeup, and as a working day it has the column of April and October; period 16 of a normal day has row 28.

@@ -30,6 +30,7 @@ impl TradingDay {
         }
     }
 
+    /// Its column where it is a day of summer.
     fn summer_column(self) -> FactorColumn
         ensures { λ r. ⌜ r ≡ summerColumn (startDay self) (working (startDay self) (self .holiday)) ⌝ }
     {
@@ -42,6 +43,7 @@ impl TradingDay {
         }
     }
 
+    /// Its column where it is a day of winter.
     fn winter_column(self) -> FactorColumn
         ensures { λ r. ⌜ r ≡ winterColumn (startDay self) (working (startDay self) (self .holiday)) ⌝ }
     {
@@ -55,18 +57,21 @@ impl TradingDay {
         }
     }
 
+    /// Whether it is Monday to Friday and no public holiday.
     fn is_workday(self) -> bool
         ensures { λ r. ⌜ r ≡ working (startDay self) (self .holiday) ⌝ }
     {
         !self.is_holiday() && !self.date().weekday().is_weekend()
     }
 
+    /// Whether it is from 22 November to 21 February.
     fn is_winter_peak(self) -> bool
         ensures { λ r. ⌜ r ≡ atWinterPeak (startDay self) ⌝ }
     {
         matches!(self.date().place_in_year(), 11_22..=12_31 | 1_01..=2_21)
     }
 
+    /// Whether it is from 24 December to 1 January.
     fn is_year_end(self) -> bool
         ensures { λ r. ⌜ r ≡ atYearEnd (startDay self) ⌝ }
     {

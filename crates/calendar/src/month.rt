@@ -12,7 +12,7 @@ fn is_leap(year: u16) -> bool
 }
 
 /// The days of a month.
-pub fn days_in_month(year: u16, month: u8) -> u8
+pub(crate) fn days_in_month(year: u16, month: u8) -> u8
     ensures { λ r. ⌜ r ≡ monthDays year month ⌝ }
 {
     match month {
@@ -24,7 +24,7 @@ pub fn days_in_month(year: u16, month: u8) -> u8
 }
 
 /// The days of so many months from April 2003 on.
-pub fn days_before(months: u32) -> u32
+pub(crate) fn days_before(months: u32) -> u32
     requires { ⌜ months ≤ 1200 ⌝ }
     ensures counted { λ r. ⌜ r ≡ daysBefore months ⌝ }
     ensures bound { λ r. ⌜ r ≤ 31 * months ⌝ }
