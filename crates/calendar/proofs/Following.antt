@@ -19,7 +19,7 @@ pub record Has (d : CalendarDay) : Type 0 where
   pub first : 1 ≤ d .day
   pub last : d .day ≤ monthDays (d .year) (d .month)
 
-has : (d : CalendarDay) → inCalendar d ≡ true → Has d
+pub has : (d : CalendarDay) → inCalendar d ≡ true → Has d
 has d e =
     let months = and-parts _ _ (and-parts _ _ e .0) in
     let days = and-parts _ _ (and-parts _ _ e .1) in

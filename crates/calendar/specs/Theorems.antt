@@ -33,6 +33,12 @@ Unbroken = (d : CalendarDay) → inCalendar d ≡ true → inCalendar (following
 abbrev pub Round : Type 0
 Round = (l : DayLength) → (rowOf l 1 ≡ 13) × (rowOf l (periodsOf l) ≡ 12)
 
+-- All of October is winter for spill and summer for makeup.
+abbrev pub Octobers : Type 0
+Octobers =
+    (d : CalendarDay) → inCalendar d ≡ true → d .month ≡ 10
+    → (spillSeasonOf d ≡ SpillWinter) × (makeupSeasonOf d ≡ MakeupSummer)
+
 -- Every day from 24 December to 1 January, a working day or not, has the column of winter's other days.
 abbrev pub YearEnd : Type 0
 YearEnd = (d : CalendarDay) (publicHoliday : Bool) → atYearEnd d ≡ true → columnOf d publicHoliday ≡ OtherWinterDay

@@ -2,7 +2,7 @@ use mathlib.Core.Path.{refl}
 use native.Mathlib.Omega.{arith}
 use Rattle.calendar.specs.Theorems.{Round}
 use Rattle.calendar.specs.declared.length.DayLength.the-variants.{Short, Normal, Long}
-use Rattle.calendar.proofs.Columns.{year-end}
+use Rattle.calendar.proofs.Columns.{octobers, year-end}
 use Rattle.calendar.proofs.Following.{consecutive, unbroken}
 use Rattle.calendar.proofs.theorems.calendar_stands.Needs as need
 
@@ -18,6 +18,7 @@ returns c =
       consecutive = consecutive;
       unbroken = unbroken;
       round = whole-round;
+      octobers = octobers;
       year-end = year-end;
       worked = (refl, refl, refl, refl, refl, refl, refl);
     }
