@@ -1,11 +1,23 @@
--- Energies and rates up to a limit.
-use Prim.Native.Nat.{ℕ}
+-- The largest energies and rates that a price is asked of.
+use Prim.Native.Nat.{ℕ, _*_}
 use mathlib.Core.Bool.{cond}
 use lib.Dec.{leb}
 use Rattle.std.specs.declared.option.Option.{Option}
 use Rattle.std.specs.declared.option.Option.the-variants.{Some, None}
 use Rattle.energy.specs.declared.unit.Kwh.{Kwh}
 use Rattle.energy.specs.declared.unit.Rate.{Rate}
+
+-- A base, a nomination, an actual demand, an export and a spill are at most so many kWh.
+abbrev pub mostEnergy : ℕ
+mostEnergy = 200000000
+
+-- A shortage is at most an actual demand and an export together.
+abbrev pub mostShortage : ℕ
+mostShortage = 2 * mostEnergy
+
+-- A makeup rate is at most so many millipence per kWh.
+abbrev pub mostRate : ℕ
+mostRate = 100000
 
 -- An energy where it is at most so many kWh, and none where it is more.
 abbrev pub energyUpTo : ℕ → Kwh → Option Kwh

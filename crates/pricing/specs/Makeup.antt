@@ -10,11 +10,12 @@ use Rattle.energy.specs.declared.unit.Rate.{Rate}
 use Rattle.pricing.specs.Factors.{factorIn}
 use Rattle.pricing.specs.Money.{micropence}
 
--- A shortage at the plain rate: 1,000 micropence for each millipence of the rate and each kWh.
+-- At the plain rate each kWh costs 1,000 micropence for each millipence of the rate.
 abbrev pub plainCharge : Rate → Kwh → Micropence
 plainCharge u s = micropence (1000 * s .0 * u .0)
 
--- The plain rate for 15 parts in 100 of the base, and the rate times the factor, which is in tenths, for the rest of the shortage.
+-- 15 parts in 100 of the base are charged at the plain rate, and so 150 micropence for each kWh of the base and each
+-- millipence; what the shortage has beyond, in hundredths of a kWh, at the plain rate times the factor in tenths.
 abbrev pub raisedCharge : ℕ → Kwh → Rate → Kwh → Micropence
 raisedCharge f b u s = micropence (150 * b .0 * u .0 + (100 * s .0 - 15 * b .0) * f * u .0)
 

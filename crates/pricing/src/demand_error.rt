@@ -1,7 +1,8 @@
 // Demand Error: by how much a party's figures of one period are out.
-ghost use lib.IntN.{pos, negsuc};
+ghost use lib.IntN.{pos, negℤ};
 ghost use lib.Signed.{_≤ℤ_};
 ghost use mathlib.Core.Path.{_≡_};
+ghost use Rattle.pricing.specs.Limits.{mostEnergy, mostShortage};
 ghost use Rattle.pricing.specs.DemandErrors.{errorOf, spillOf, shortageOf};
 use crate::priced::PricedEnergy;
 use crate::priced::Shortage;
@@ -11,8 +12,8 @@ use energy::Kwh;
 #[derive(Clone, Copy, PartialEq, Eq, Debug)]
 pub struct DemandError {
     kwh: i64,
-    ghost least: { negsuc 399999999 ≤ℤ kwh },
-    ghost most: { kwh ≤ℤ pos 200000000 },
+    ghost least: { negℤ (pos mostShortage) ≤ℤ kwh },
+    ghost most: { kwh ≤ℤ pos mostEnergy },
 }
 
 impl DemandError {

@@ -1,7 +1,6 @@
 // What both editions need to price a shortage.
-ghost use Prim.Native.Nat.{_*_, _<_};
 ghost use mathlib.Core.Path.{_≡_};
-ghost use Rattle.pricing.specs.Makeup.{plainCharge, raisedCharge, factoredCharge};
+ghost use Rattle.pricing.specs.Makeup.{plainCharge, factoredCharge};
 use crate::factor::Factor;
 use crate::priced::PricedEnergy;
 use crate::priced::PricedRate;
@@ -9,14 +8,14 @@ use crate::priced::Shortage;
 use energy::Micropence;
 
 /// Every kWh at the rate.
-pub fn plain_charge(rate: PricedRate, shortage: Shortage) -> Micropence
+pub(crate) fn plain_charge(rate: PricedRate, shortage: Shortage) -> Micropence
     ensures { λ r. ⌜ r ≡ plainCharge (rate .rate) (shortage .energy) ⌝ }
 {
     Micropence(rate.times(1000 * shortage.energy.0))
 }
 
 /// Every kWh at the rate up to 15 parts in 100 of the base, and at the rate times the factor beyond.
-pub fn factored_charge(
+pub(crate) fn factored_charge(
     factor: Factor,
     base: PricedEnergy,
     rate: PricedRate,
