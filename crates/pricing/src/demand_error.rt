@@ -4,8 +4,8 @@ ghost use lib.Signed.{_≤ℤ_};
 ghost use mathlib.Core.Path.{_≡_};
 ghost use Rattle.pricing.specs.Limits.{mostEnergy, mostShortage};
 ghost use Rattle.pricing.specs.DemandErrors.{errorOf, spillOf, shortageOf};
-use crate::priced::PricedEnergy;
-use crate::priced::Shortage;
+use crate::priced_energy::PricedEnergy;
+use crate::shortage::Shortage;
 use energy::Kwh;
 
 /// Demand Error in kWh: above zero a spill, below zero a shortage.
@@ -25,8 +25,8 @@ impl DemandError {
         DemandError { kwh }
     }
 
-    /// The error in kWh.
-    pub fn kwh(self) -> i64
+    /// The error in kWh, with its sign.
+    pub fn signed_kwh(self) -> i64
         ensures { λ r. ⌜ r ≡ self .kwh ⌝ }
     {
         self.kwh
@@ -36,7 +36,8 @@ impl DemandError {
     pub fn spill(self) -> PricedEnergy
         ensures { λ r. ⌜ r .energy ≡ spillOf (self .kwh) ⌝ }
     {
-        let spilled = if self.kwh > 0 { self.kwh as u64 } else { 0 };
+        let error = self.signed_kwh();
+        let spilled = if error > 0 { error as u64 } else { 0 };
         PricedEnergy {
             energy: Kwh(spilled),
         }
@@ -46,7 +47,8 @@ impl DemandError {
     pub fn shortage(self) -> Shortage
         ensures { λ r. ⌜ r .energy ≡ shortageOf (self .kwh) ⌝ }
     {
-        let short = if self.kwh < 0 { (-self.kwh) as u64 } else { 0 };
+        let error = self.signed_kwh();
+        let short = if error < 0 { (-error) as u64 } else { 0 };
         Shortage { energy: Kwh(short) }
     }
 }

@@ -1,5 +1,5 @@
 // The makeup factor table.
-ghost use Prim.Native.Nat.{_*_, _≤_};
+ghost use Prim.Native.Nat.{_≤_};
 ghost use mathlib.Core.Path.{_≡_};
 ghost use Rattle.pricing.specs.Factors.{placeIn, factorOf, factorIn};
 use calendar::FactorColumn;
@@ -90,15 +90,6 @@ impl Factor {
         ensures { λ r. ⌜ r ≡ self .tenths ⌝ }
     {
         self.tenths
-    }
-
-    /// So many times the tenths of the factor.
-    pub(crate) fn times(self, count: u64) -> u64
-        requires { ⌜ count ≤ 40000000000 ⌝ }
-        ensures value { λ r. ⌜ r ≡ count * self .tenths ⌝ }
-        ensures bound { λ r. ⌜ r ≤ 15 * count ⌝ }
-    {
-        count * self.tenths as u64
     }
 }
 

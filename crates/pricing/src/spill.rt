@@ -1,8 +1,8 @@
-// What both editions need to price a spill.
+// What the editions need to price a spill.
 ghost use Prim.Native.Nat.{_≤_};
 ghost use mathlib.Core.Path.{_≡_};
 ghost use Rattle.pricing.specs.Spills.{tolerated, paidAt};
-use crate::priced::PricedEnergy;
+use crate::priced_energy::PricedEnergy;
 use energy::Micropence;
 
 /// The largest spill that is within tolerance.

@@ -1,9 +1,0 @@
-use mathlib.Core.Path.{refl}
-use native.Mathlib.Omega.{arith}
-use Rattle.std.proofs.shelf.Bits.{mul-le}
-use Rattle.pricing.proofs.factor.Factor.times.Needs as need
-
-pub returns : need.returns
-returns c =
-    let count = c .args .count in
-    record { value = refl; bound = omega (arith, mul-le count (c .args .self .tenths) count 15 (omega arith) (c .args .self .most)) }
