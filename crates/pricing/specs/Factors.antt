@@ -22,7 +22,7 @@ pub record Band : Type 0 where
 abbrev pub rows : ℕ → ℕ → List ℕ → Band
 rows from to factors = record { firstRow = from; lastRow = to; columns = factors }
 
--- The nine bands of the day.
+-- The nine bands of the day, with the columns in the order of their places.
 abbrev pub bands : List Band
 bands =
     rows 1 16 (10 ∷ 10 ∷ 10 ∷ 10 ∷ 10 ∷ 10 ∷ [])
@@ -40,12 +40,12 @@ bands =
 abbrev pub hasRow : Band → ℕ → Bool
 hasRow b n = leb (b .firstRow) n && leb n (b .lastRow)
 
--- The factors at a row are those of the band that has it, and none where no band has it.
+-- The factors at a row are those of the first band that has it, and none where no band has it.
 abbrev pub factorsAt : List Band → ℕ → List ℕ
 factorsAt [] n = []
 factorsAt (b ∷ bs) n = cond (hasRow b n) (b .columns) (factorsAt bs n)
 
--- The columns stand in this order, counted from 0.
+-- The place of a column, counted from 0.
 abbrev pub placeIn : FactorColumn → ℕ
 placeIn MaySeptemberWorkday = 0
 placeIn AprilOctoberWorkday = 1

@@ -14,12 +14,13 @@ use Rattle.pricing.specs.Money.{micropence}
 abbrev pub plainCharge : Rate → Kwh → Micropence
 plainCharge u s = micropence (1000 * s .0 * u .0)
 
--- 15 parts in 100 of the base are charged at the plain rate, and so 150 micropence for each kWh of the base and each
--- millipence; what the shortage has beyond, in hundredths of a kWh, at the plain rate times the factor in tenths.
+-- 15 parts in 100 of the base cost the plain rate: 150 micropence for each millipence of the rate and each kWh of the base.
+-- What the shortage has beyond them costs the plain rate times the factor: for each millipence and each hundredth of a kWh
+-- as many micropence as the factor has tenths.
 abbrev pub raisedCharge : ℕ → Kwh → Rate → Kwh → Micropence
 raisedCharge f b u s = micropence (150 * b .0 * u .0 + (100 * s .0 - 15 * b .0) * f * u .0)
 
--- A shortage of at most 15 parts in 100 of the base is charged at the plain rate, and a larger one raised by the factor.
+-- A shortage of at most 15 parts in 100 of the base is charged at the plain rate, and a larger one by the factor too.
 abbrev pub factoredCharge : ℕ → Kwh → Rate → Kwh → Micropence
 factoredCharge f b u s = cond (leb (100 * s .0) (15 * b .0)) (plainCharge u s) (raisedCharge f b u s)
 

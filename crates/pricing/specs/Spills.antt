@@ -11,7 +11,8 @@ use Rattle.energy.specs.declared.unit.Kwh.{Kwh}
 use Rattle.energy.specs.declared.unit.Micropence.{Micropence}
 use Rattle.pricing.specs.Money.{micropence}
 
--- A spill is within tolerance when it is at most 10,000 kWh and ten times it is at most the energy that it is measured against.
+-- A spill is within tolerance when it is at most 10,000 kWh and ten times it is at most the energy that it is measured
+-- against.
 abbrev pub tolerated : Kwh → Kwh → Bool
 tolerated spilled e = leb (spilled .0) 10000 && leb (10 * spilled .0) (e .0)
 
@@ -19,14 +20,15 @@ tolerated spilled e = leb (spilled .0) 10000 && leb (10 * spilled .0) (e .0)
 abbrev pub paidAt : ℕ → Kwh → Micropence
 paidAt price spilled = micropence (price * spilled .0)
 
--- The prices of edition 3.0 in micropence per kWh: in summer 1.5 pence within tolerance and 0.8 outside, in winter 2.0 and 1.2.
+-- The prices of edition 3.0, a penny being 1,000,000 micropence: in summer 1.5 pence per kWh within tolerance and 0.8
+-- outside, in winter 2.0 and 1.2.
 abbrev pub thirdPrice : SpillSeason → Bool → ℕ
 thirdPrice Summer true = 1500000
 thirdPrice Summer false = 800000
 thirdPrice Winter true = 2000000
 thirdPrice Winter false = 1200000
 
--- The prices of edition 4.0 in micropence per kWh: 1.0 penny within tolerance and 0.8 outside, all the year.
+-- The prices of edition 4.0: 1.0 penny per kWh within tolerance and 0.8 outside, all the year.
 abbrev pub fourthPrice : Bool → ℕ
 fourthPrice true = 1000000
 fourthPrice false = 800000
