@@ -1,0 +1,4 @@
+mod Columns
+mod Following
+mod Months
+mod Weeks

@@ -1,0 +1,9 @@
+use mathlib.Core.Path.{refl}
+use native.Mathlib.Omega.{arith}
+use Rattle.std.proofs.shelf.Bits.{mul-le}
+use Rattle.pricing.proofs.makeup.at_factor.Needs as need
+
+pub returns : need.returns
+returns c =
+    let count = c .args .count in
+    record { value = refl; bound = omega (arith, mul-le count (c .args .factor .tenths) count 15 (omega arith) (c .args .factor .most)) }
