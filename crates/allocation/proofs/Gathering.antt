@@ -135,7 +135,7 @@ gathered-in g rows p k x q ha hb h read stands before n s hn hs =
     ∙ sym (next ∙ here ∙ cellOf-more x (drop (k + 1) rows) p n s ∙ ap (λ (t : Bool). cond t (put x rest) rest) test)
 
 -- no entry has a party number above 15
-filed-outside : (xs : List FiledRow) (k : FiledKey) → (15 < k .north) ⊎ (15 < k .south) → filed xs k ≡ None
+pub filed-outside : (xs : List FiledRow) (k : FiledKey) → (15 < k .north) ⊎ (15 < k .south) → filed xs k ≡ None
 filed-outside [] k h = refl
 filed-outside (x ∷ xs) k h =
     cond-false (filedFit x && filedUnder x k) (Some x) (filed xs k) (out-of-square x k h) ∙ filed-outside xs k h

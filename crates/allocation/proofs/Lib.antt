@@ -2,3 +2,4 @@ pub mod Awards
 pub mod Filling
 pub mod Flow
 pub mod Gathering
+pub mod Validating

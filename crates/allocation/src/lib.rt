@@ -6,6 +6,7 @@ mod cell;
 mod grid;
 mod matching;
 mod square;
+mod table;
 mod told;
 
 /// The laws stand for every rule that keeps the quota law: a proof and no work.

@@ -1,0 +1,112 @@
+-- What cells tell is what the definitions of validated trades and agreed matches say.
+use Prim.Native.Nat.{ℕ, _≤_, _<_}
+use mathlib.Core.Bool.{Bool, true, false, _&&_, cond}
+use mathlib.Core.List.{List, [], _∷_}
+use mathlib.Core.Logic.{_⊎_, inl, inr, ⊎-elim}
+use mathlib.Core.Path.{_≡_, refl, ap, subst, sym, _∙_}
+use native.Mathlib.Omega.{arith}
+use lib.Dec.{eqb, leb}
+use Rattle.std.proofs.shelf.Tests.{cond-both, and-parts, leb-true, cases-bool}
+use Rattle.std.proofs.shelf.Ways.{tells}
+use Rattle.std.specs.Options.{mapped, Cases}
+use Rattle.std.specs.declared.option.Option.{Option}
+use Rattle.std.specs.declared.option.Option.the-variants.{Some, None}
+use Rattle.energy.specs.declared.side.Side.{Side}
+use Rattle.energy.specs.declared.side.Side.the-variants.{Northern, Southern}
+use Rattle.book.specs.FiledRows.{filedFit, filedUnder}
+use Rattle.book.specs.declared.filed_row.FiledKey.{FiledKey}
+use Rattle.book.specs.declared.filed_row.FiledKind.the-variants.{Trade, Match}
+use Rattle.book.specs.declared.filed_row.FiledRow.{FiledRow}
+use Rattle.allocation.specs.Cells.{filed, keyOf, amountsIn, cellOf}
+use Rattle.allocation.specs.Told.{both, four, toldIn}
+use Rattle.allocation.specs.Trades.{alike, validNs, validSn, sameFour, agreed}
+use Rattle.allocation.specs.declared.told.Told.{Told}
+use Rattle.allocation.specs.declared.told.Told.the-variants.{Ns, Sn, Agreed}
+use Rattle.allocation.proofs.Gathering.{filed-outside}
+
+cond-nil : (t : Bool) → _≡_ {A = ℕ} (cond t 0 0) 0
+cond-nil true = refl
+cond-nil false = refl
+
+lone : (a : ℕ) → cond (eqb a 0) a 0 ≡ 0
+lone a = grind (arith, tells)
+
+ns-alike : (a b : Option FiledRow) → both (amountsIn a .ns .0) (amountsIn b .ns .0) ≡ alike (mapped (λ x. x .ns .0) a) (mapped (λ x. x .ns .0) b)
+ns-alike None None = refl
+ns-alike None (Some y) = cond-nil (eqb 0 (y .ns .0))
+ns-alike (Some x) None = lone (x .ns .0)
+ns-alike (Some x) (Some y) = refl
+
+sn-alike : (a b : Option FiledRow) → both (amountsIn a .sn .0) (amountsIn b .sn .0) ≡ alike (mapped (λ x. x .sn .0) a) (mapped (λ x. x .sn .0) b)
+sn-alike None None = refl
+sn-alike None (Some y) = cond-nil (eqb 0 (y .sn .0))
+sn-alike (Some x) None = lone (x .sn .0)
+sn-alike (Some x) (Some y) = refl
+
+four-alike : (a b : Option FiledRow) → four (amountsIn a) (amountsIn b) ≡ sameFour a b
+four-alike None None = refl
+four-alike None (Some y) = cond-nil (eqb 0 (y .ns .0) && eqb 0 (y .sn .0))
+four-alike (Some x) None = grind (arith, tells)
+four-alike (Some x) (Some y) = refl
+
+module _ (xs : List FiledRow) (p : ℕ) where
+  -- what is told of each pair
+  abbrev pub valid : Told → ℕ → ℕ → ℕ
+  valid Ns = validNs xs p
+  valid Sn = validSn xs p
+  valid Agreed = agreed xs p
+
+  told-valid : (what : Told) (n s : ℕ) → toldIn what (cellOf xs p n s) ≡ valid what n s
+  told-valid Ns n s = ns-alike (filed xs (keyOf p Trade Northern n s)) (filed xs (keyOf p Trade Southern n s))
+  told-valid Sn n s = sn-alike (filed xs (keyOf p Trade Northern n s)) (filed xs (keyOf p Trade Southern n s))
+  told-valid Agreed n s = four-alike (filed xs (keyOf p Match Northern n s)) (filed xs (keyOf p Match Southern n s))
+
+  pub told-is : (what : Told) → (λ (n s : ℕ). toldIn what (cellOf xs p n s)) ≡ valid what
+  told-is what = λ i n s. told-valid what n s i
+
+  pub valid-outside : (what : Told) (n s : ℕ) → (15 < n) ⊎ (15 < s) → valid what n s ≡ 0
+  valid-outside Ns n s h = ap (λ (o : Option FiledRow). alike (mapped (λ x. x .ns .0) o) (mapped (λ x. x .ns .0) (filed xs (keyOf p Trade Southern n s)))) (filed-outside xs (keyOf p Trade Northern n s) h)
+  valid-outside Sn n s h = ap (λ (o : Option FiledRow). alike (mapped (λ x. x .sn .0) o) (mapped (λ x. x .sn .0) (filed xs (keyOf p Trade Southern n s)))) (filed-outside xs (keyOf p Trade Northern n s) h)
+  valid-outside Agreed n s h = ap (λ (o : Option FiledRow). sameFour o (filed xs (keyOf p Match Southern n s))) (filed-outside xs (keyOf p Match Northern n s) h)
+
+-- an entry's amounts are within the limit
+small-row : (x : FiledRow) → filedFit x ≡ true → (x .ns .0 ≤ 9999999) × (x .sn .0 ≤ 9999999)
+small-row x e =
+    let north = and-parts (leb (x .north) 15) (leb (x .south) 15 && (leb (x .ns .0) 9999999 && leb (x .sn .0) 9999999)) e in
+    let south = and-parts (leb (x .south) 15) (leb (x .ns .0) 9999999 && leb (x .sn .0) 9999999) (north .1) in
+    let amounts = and-parts (leb (x .ns .0) 9999999) (leb (x .sn .0) 9999999) (south .1) in
+    (leb-true (x .ns .0) 9999999 (amounts .0), leb-true (x .sn .0) 9999999 (amounts .1))
+
+abbrev Small : Option FiledRow → Type 0
+Small o = Cases o (Unit {0}) (λ x. (x .ns .0 ≤ 9999999) × (x .sn .0 ≤ 9999999))
+
+filed-small : (xs : List FiledRow) (k : FiledKey) → Small (filed xs k)
+filed-small [] k = tt
+filed-small (x ∷ xs) k =
+    cond-both (filedFit x && filedUnder x k) (Some x) (filed xs k) Small
+    (λ e. small-row x (and-parts (filedFit x) (filedUnder x k) e .0))
+    (λ e. filed-small xs k)
+
+cond-small : (t : Bool) (a : ℕ) → a ≤ 9999999 → cond t a 0 ≤ 9999999
+cond-small true a h = h
+cond-small false a h = omega arith
+
+ns-small : (a b : Option FiledRow) → Small a → alike (mapped (λ x. x .ns .0) a) (mapped (λ x. x .ns .0) b) ≤ 9999999
+ns-small None b h = omega arith
+ns-small (Some x) None h = omega arith
+ns-small (Some x) (Some y) h = cond-small (eqb (x .ns .0) (y .ns .0)) (x .ns .0) (h .0)
+
+sn-small : (a b : Option FiledRow) → Small a → alike (mapped (λ x. x .sn .0) a) (mapped (λ x. x .sn .0) b) ≤ 9999999
+sn-small None b h = omega arith
+sn-small (Some x) None h = omega arith
+sn-small (Some x) (Some y) h = cond-small (eqb (x .sn .0) (y .sn .0)) (x .sn .0) (h .1)
+
+four-small : (a b : Option FiledRow) → Small a → sameFour a b ≤ 9999999
+four-small None b h = omega arith
+four-small (Some x) None h = omega arith
+four-small (Some x) (Some y) h = cond-small (eqb (x .ns .0) (x .sn .0) && (eqb (x .ns .0) (y .ns .0) && eqb (x .ns .0) (y .sn .0))) (x .ns .0) (h .0)
+
+pub valid-small : (xs : List FiledRow) (p : ℕ) (what : Told) (n s : ℕ) → valid xs p what n s ≤ 9999999
+valid-small xs p Ns n s = ns-small (filed xs (keyOf p Trade Northern n s)) (filed xs (keyOf p Trade Southern n s)) (filed-small xs (keyOf p Trade Northern n s))
+valid-small xs p Sn n s = sn-small (filed xs (keyOf p Trade Northern n s)) (filed xs (keyOf p Trade Southern n s)) (filed-small xs (keyOf p Trade Northern n s))
+valid-small xs p Agreed n s = four-small (filed xs (keyOf p Match Northern n s)) (filed xs (keyOf p Match Southern n s)) (filed-small xs (keyOf p Match Northern n s))
