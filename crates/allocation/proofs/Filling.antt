@@ -51,3 +51,7 @@ pub told-empty : (what : Told) → toldIn what (cellOf [] 0 0 0) ≡ 0
 told-empty Ns = refl
 told-empty Sn = refl
 told-empty Agreed = refl
+
+-- what holds of a function at each place holds of an equal one
+pub pointwise : (P : ℕ → ℕ → ℕ → Type 0) (f g : ℕ → ℕ → ℕ) → f ≡ g → ((i j : ℕ) → P i j (g i j)) → (i j : ℕ) → P i j (f i j)
+pointwise P f g e h i j = subst (λ (k : ℕ → ℕ → ℕ). P i j (k i j)) (sym e) (h i j)

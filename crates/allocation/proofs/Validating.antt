@@ -6,7 +6,8 @@ use mathlib.Core.Logic.{_⊎_, inl, inr, ⊎-elim}
 use mathlib.Core.Path.{_≡_, refl, ap, subst, sym, _∙_}
 use native.Mathlib.Omega.{arith}
 use lib.Dec.{eqb, leb}
-use Rattle.std.proofs.shelf.Tests.{cond-both, and-parts, leb-true, cases-bool}
+use lib.ListN.{getD}
+use Rattle.std.proofs.shelf.Tests.{cond-both, and-parts, leb-true, cases-lt}
 use Rattle.std.proofs.shelf.Ways.{tells}
 use Rattle.std.specs.Options.{mapped, Cases}
 use Rattle.std.specs.declared.option.Option.{Option}
@@ -18,8 +19,10 @@ use Rattle.book.specs.declared.filed_row.FiledKey.{FiledKey}
 use Rattle.book.specs.declared.filed_row.FiledKind.the-variants.{Trade, Match}
 use Rattle.book.specs.declared.filed_row.FiledRow.{FiledRow}
 use Rattle.allocation.specs.Cells.{filed, keyOf, amountsIn, cellOf}
+use Rattle.allocation.specs.Grids.{cellIn}
 use Rattle.allocation.specs.Told.{both, four, toldIn}
-use Rattle.allocation.specs.Trades.{alike, validNs, validSn, sameFour, agreed}
+use Rattle.allocation.specs.Trades.{alike, validNs, validSn, sameFour, agreed, northFits, southFits, validMatch}
+use Rattle.allocation.specs.declared.cell.Cell.{Cell}
 use Rattle.allocation.specs.declared.told.Told.{Told}
 use Rattle.allocation.specs.declared.told.Told.the-variants.{Ns, Sn, Agreed}
 use Rattle.allocation.proofs.Gathering.{filed-outside}
@@ -69,6 +72,11 @@ module _ (xs : List FiledRow) (p : ℕ) where
   valid-outside Sn n s h = ap (λ (o : Option FiledRow). alike (mapped (λ x. x .sn .0) o) (mapped (λ x. x .sn .0) (filed xs (keyOf p Trade Southern n s)))) (filed-outside xs (keyOf p Trade Northern n s) h)
   valid-outside Agreed n s h = ap (λ (o : Option FiledRow). sameFour o (filed xs (keyOf p Match Southern n s))) (filed-outside xs (keyOf p Match Northern n s) h)
 
+-- a square read off the cells of a period's filings
+pub read-off : (xs : List FiledRow) (p : ℕ) (what : Told) (cells : List (List Cell)) (g : ℕ → ℕ → ℕ) → g ≡ (λ (n s : ℕ). toldIn what (cellIn cells n s)) → cellIn cells ≡ cellOf xs p → g ≡ valid xs p what
+read-off xs p what cells g e same =
+    e ∙ ap {B = ℕ → ℕ → ℕ} (λ (f : ℕ → ℕ → Cell) (n s : ℕ). toldIn what (f n s)) same ∙ told-is xs p what
+
 -- an entry's amounts are within the limit
 small-row : (x : FiledRow) → filedFit x ≡ true → (x .ns .0 ≤ 9999999) × (x .sn .0 ≤ 9999999)
 small-row x e =
@@ -110,3 +118,26 @@ pub valid-small : (xs : List FiledRow) (p : ℕ) (what : Told) (n s : ℕ) → v
 valid-small xs p Ns n s = ns-small (filed xs (keyOf p Trade Northern n s)) (filed xs (keyOf p Trade Southern n s)) (filed-small xs (keyOf p Trade Northern n s))
 valid-small xs p Sn n s = sn-small (filed xs (keyOf p Trade Northern n s)) (filed xs (keyOf p Trade Southern n s)) (filed-small xs (keyOf p Trade Northern n s))
 valid-small xs p Agreed n s = four-small (filed xs (keyOf p Match Northern n s)) (filed xs (keyOf p Match Southern n s)) (filed-small xs (keyOf p Match Northern n s))
+
+-- the matches that fit on both sides are the validated ones
+module _ (xs : List FiledRow) (p north south : ℕ) (own facing : List Bool) where
+  match-at : ((k : ℕ) → k < 16 → getD own k false ≡ northFits south xs p k) → ((k : ℕ) → k < 16 → getD facing k false ≡ southFits north xs p k) → (i j : ℕ) → cond (getD own i false && getD facing j false) (agreed xs p i j) 0 ≡ validMatch north south xs p i j
+  match-at ownFits facingFits i j =
+      let nil : ((15 < i) ⊎ (15 < j)) → (t u : Bool) → cond t (agreed xs p i j) 0 ≡ cond u (agreed xs p i j) 0 =
+      λ h t u.
+      let none = valid-outside xs p Agreed i j h in
+      ap (λ (x : ℕ). cond t x 0) none ∙ cond-nil t ∙ sym (ap (λ (x : ℕ). cond u x 0) none ∙ cond-nil u) in
+      ⊎-elim
+      (λ (hi : i < 16). ⊎-elim
+      (λ (hj : j < 16). ap (λ (t : Bool). cond (t && getD facing j false) (agreed xs p i j) 0) (ownFits i hi)
+      ∙ ap (λ (t : Bool). cond (northFits south xs p i && t) (agreed xs p i j) 0) (facingFits j hj))
+      (λ (hj : 16 ≤ j). nil (inr (omega arith)) _ _)
+      (cases-lt j 16))
+      (λ (hi : 16 ≤ i). nil (inl (omega arith)) _ _)
+      (cases-lt i 16)
+
+  pub match-is : (g : ℕ → ℕ → ℕ) → g ≡ agreed xs p → ((k : ℕ) → k < 16 → getD own k false ≡ northFits south xs p k) → ((k : ℕ) → k < 16 → getD facing k false ≡ southFits north xs p k) → (λ (i j : ℕ). cond (getD own i false && getD facing j false) (g i j) 0) ≡ validMatch north south xs p
+  match-is g e ownFits facingFits =
+      let at : (λ (i j : ℕ). cond (getD own i false && getD facing j false) (agreed xs p i j) 0) ≡ validMatch north south xs p =
+      λ t i j. match-at ownFits facingFits i j t in
+      ap {B = ℕ → ℕ → ℕ} (λ (f : ℕ → ℕ → ℕ) (i j : ℕ). cond (getD own i false && getD facing j false) (f i j) 0) e ∙ at

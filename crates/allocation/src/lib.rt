@@ -3,6 +3,7 @@
 ghost use Rattle.allocation.specs.Laws.{LawOfFlow, FlowsMeet};
 
 mod cell;
+mod figures;
 mod grid;
 mod matching;
 mod square;
