@@ -1,5 +1,6 @@
 pub mod Allocation
 pub mod Cells
+pub mod Filings
 pub mod Grids
 pub mod Laws
 pub mod Periods

@@ -8,6 +8,8 @@ mod grid;
 mod matching;
 mod square;
 mod table;
+mod tabling;
+mod terms;
 mod told;
 
 /// The laws stand for every rule that keeps the quota law: a proof and no work.

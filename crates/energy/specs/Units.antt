@@ -10,6 +10,10 @@ use Rattle.energy.specs.declared.unit.Mw.{Mw}
 abbrev pub kwh : ℕ → Kwh
 kwh n = record { 0 = n }
 
+-- So many MW.
+abbrev pub mw : ℕ → Mw
+mw n = record { 0 = n }
+
 -- One MW for half an hour is 500 kWh.
 abbrev pub halfHour : Mw → Kwh
 halfHour m = kwh (500 * m .0)
