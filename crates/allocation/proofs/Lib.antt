@@ -1,4 +1,5 @@
 pub mod Awards
+pub mod Entitling
 pub mod Filling
 pub mod Flow
 pub mod Gathering

@@ -15,8 +15,11 @@ use Rattle.book.specs.declared.filed_row.FiledRow.{FiledRow}
 use Rattle.allocation.specs.Filings.{periodIn}
 use Rattle.allocation.specs.Laws.{Fits}
 use Rattle.allocation.specs.Periods.{Way, Period, way}
+use Rattle.allocation.specs.Tables.{Sound}
 use Rattle.allocation.specs.Trades.{validNs, validSn, agreed, northFits, southFits, validMatch}
 use Rattle.allocation.specs.declared.terms.PeriodTerms.{PeriodTerms}
+use Rattle.allocation.specs.declared.told.Told.the-variants.{Ns, Sn, Agreed}
+use Rattle.allocation.proofs.Validating.{valid-small, cond-small}
 
 abbrev wayWith : ℕ → ℕ → (ℕ → ℕ → ℕ) → (ℕ → ℕ → ℕ) → (ℕ → ℕ) → ℕ → Way
 wayWith n m t a e k = record { senders = n; receivers = m; trade = t; matches = a; entitlement = e; ntc = k }
@@ -47,3 +50,24 @@ matches-fit t xs p NorthSouth n h =
 matches-fit t xs p SouthNorth s h =
     gated (t .north) (sumTo (t .north) (λ n. validSn xs p n s)) (λ n. northFits (t .south) xs p n && southFits (t .north) xs p s) (λ n. agreed xs p n s)
     (λ n e. leb-true (sumTo (t .north) (λ n. agreed xs p n s)) (sumTo (t .north) (λ n. validSn xs p n s)) (and-parts (northFits (t .south) xs p n) (southFits (t .north) xs p s) e .1))
+
+-- the directions of a period keep the limits of a table
+pub sound-way : (t : PeriodTerms) (xs : List FiledRow) (p : ℕ) (d : Direction) → Sound (way (periodIn t xs p) d)
+sound-way t xs p NorthSouth = record {
+  sending = t .northfew;
+  receiving = t .southfew;
+  trades = valid-small xs p Ns;
+  matches = λ n s. cond-small (northFits (t .south) xs p n && southFits (t .north) xs p s) (agreed xs p n s) (valid-small xs p Agreed n s);
+  entitled = λ i. omega (arith, t .northsmall i);
+  capacity = omega (arith, t .nsmost);
+  fits = matches-fit t xs p NorthSouth;
+}
+sound-way t xs p SouthNorth = record {
+  sending = t .southfew;
+  receiving = t .northfew;
+  trades = λ s n. valid-small xs p Sn n s;
+  matches = λ s n. cond-small (northFits (t .south) xs p n && southFits (t .north) xs p s) (agreed xs p n s) (valid-small xs p Agreed n s);
+  entitled = λ i. omega (arith, t .southsmall i);
+  capacity = omega (arith, t .snmost);
+  fits = matches-fit t xs p SouthNorth;
+}

@@ -95,7 +95,7 @@ filed-small (x ∷ xs) k =
     (λ e. small-row x (and-parts (filedFit x) (filedUnder x k) e .0))
     (λ e. filed-small xs k)
 
-cond-small : (t : Bool) (a : ℕ) → a ≤ 9999999 → cond t a 0 ≤ 9999999
+pub cond-small : (t : Bool) (a : ℕ) → a ≤ 9999999 → cond t a 0 ≤ 9999999
 cond-small true a h = h
 cond-small false a h = omega arith
 

@@ -5,5 +5,6 @@ pub mod Grids
 pub mod Laws
 pub mod Periods
 pub mod Tables
+pub mod Terms
 pub mod Told
 pub mod Trades

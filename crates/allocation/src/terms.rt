@@ -5,8 +5,11 @@ ghost use lib.ListN.{getD};
 ghost use Rattle.energy.specs.Units.{mw};
 use energy::Mw;
 
+mod calls;
+
 /// How many parties each side has, what each is entitled to, the net transfer capacity of each direction
-/// and whether the link is in service. An entitlement is at most 159,984 MW.
+/// and whether the link is in service. A side has at most 16 parties, an entitlement is at most 159,984 MW
+/// and a net transfer capacity at most 9,999 MW.
 #[derive(Clone, Copy)]
 pub struct PeriodTerms {
     pub(crate) north: usize,
@@ -18,6 +21,8 @@ pub struct PeriodTerms {
     pub(crate) service: bool,
     ghost northfew: { north ≤ 16 },
     ghost southfew: { south ≤ 16 },
+    ghost nsmost: { «ns_ntc» .0 ≤ 9999 },
+    ghost snmost: { «sn_ntc» .0 ≤ 9999 },
     ghost northsmall: { (i : ℕ) → getD northern i (mw 0) .0 ≤ 159984 },
     ghost southsmall: { (i : ℕ) → getD southern i (mw 0) .0 ≤ 159984 },
 }
