@@ -2,4 +2,5 @@ pub mod Awards
 pub mod Filling
 pub mod Flow
 pub mod Gathering
+pub mod Sharing
 pub mod Validating

@@ -5,6 +5,7 @@ ghost use Rattle.allocation.specs.Laws.{LawOfFlow, FlowsMeet};
 mod cell;
 mod grid;
 mod matching;
+mod share;
 mod square;
 mod table;
 mod told;
