@@ -7,6 +7,7 @@ mod grid;
 mod matching;
 mod share;
 mod square;
+mod steps;
 mod table;
 mod told;
 
