@@ -29,10 +29,10 @@ module _ (rule : Rule) (law : Keeps rule) where
         let swapped = ap (λ (x : ℕ). x / all) (mul-comm (w .entitlement i) (w .ntc)) in
         omega (arith, award-ge rule law (w .ntc) (w .senders) (w .entitlement) i h (leb-false all (w .ntc) e)))
 
-    kept-le : (i : ℕ) → i < w .senders → kept rule w i ≤ traded w i
+    pub kept-le : (i : ℕ) → i < w .senders → kept rule w i ≤ traded w i
     kept-le i h = omega (arith, fits i h)
 
-    granted-le : (i : ℕ) → i < w .senders → granted rule w s i ≤ traded w i
+    pub granted-le : (i : ℕ) → i < w .senders → granted rule w s i ≤ traded w i
     granted-le i h = omega (arith, kept-le i h, award-le rule law (left rule w s) (w .senders) (lacking rule w) i h)
 
     granted-ge : (i : ℕ) → i < w .senders → matched w i + min (unmatched w i) (scaled w i) ≤ granted rule w s i
@@ -41,14 +41,14 @@ module _ (rule : Rule) (law : Keeps rule) where
     rationed-sum : (i : ℕ) → i < w .senders → sumTo (w .receivers) (rationed rule w s i) ≡ granted rule w s i
     rationed-sum i h = omega (arith, awards-sum rule law (granted rule w s i) (w .receivers) (w .trade i), granted-le i h)
 
-    lacking-sum : sumTo (w .senders) (kept rule w) + sumTo (w .senders) (lacking rule w) ≡ volume w
+    pub lacking-sum : sumTo (w .senders) (kept rule w) + sumTo (w .senders) (lacking rule w) ≡ volume w
     lacking-sum =
         sym (sumTo-add (w .senders) (kept rule w) (lacking rule w))
         ∙ sumTo-same (w .senders) (λ i. kept rule w i + lacking rule w i) (traded w) (λ i h. omega (arith, kept-le i h))
 
     module _ (some : sumTo (w .senders) (matched w) ≤ s) where
       -- what the senders keep leaves something of the capacity and the trade against the flow
-      kept-sum : sumTo (w .senders) (kept rule w) ≤ w .ntc + s
+      pub kept-sum : sumTo (w .senders) (kept rule w) ≤ w .ntc + s
       kept-sum =
           omega (
             arith,

@@ -1,7 +1,10 @@
 pub mod Awards
+pub mod Bounds
 pub mod Entitling
 pub mod Filling
 pub mod Flow
 pub mod Gathering
+pub mod Granting
+pub mod Sharing
 pub mod Tabulating
 pub mod Validating

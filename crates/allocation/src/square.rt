@@ -35,7 +35,7 @@ fn column(grid: &Square, j: usize) -> [Kwh; 16]
 /// The sum of the first n figures of a row.
 pub fn sum_of(row: &[Kwh; 16], n: usize) -> u64
     requires few { ⌜ n ≤ 16 ⌝ }
-    requires small { ⌜ ((k : ℕ) → figureAt (now row) k ≤ 159999984) ⌝ }
+    requires small { ⌜ ((k : ℕ) → k < n → figureAt (now row) k ≤ 159999984) ⌝ }
     ensures { λ r. ⌜ r ≡ sumTo n (figureAt (now (row .entry))) ⌝ }
 {
     let mut sum = 0;
