@@ -4,8 +4,8 @@ use mathlib.Core.List.{List, []}
 use mathlib.Core.Logic.{_≢_, ⊎-elim}
 use mathlib.Core.Path.{_≡_, refl, ap, subst, sym, _∙_}
 use native.Mathlib.Omega.{arith}
-use lib.ListN.{length, getD, set}
-use Rattle.std.proofs.shelf.Lists.{getD-set-same, getD-set-other, getD-past}
+use lib.ListN.{length, getD, set, replicate}
+use Rattle.std.proofs.shelf.Lists.{getD-set-same, getD-set-other, getD-past, getD-replicate}
 use Rattle.std.proofs.shelf.Tests.{cases-lt, cases-eq}
 use Rattle.energy.specs.declared.unit.Kwh.{Kwh}
 use Rattle.energy.specs.Grids.{figureAt}
@@ -55,3 +55,13 @@ told-empty Agreed = refl
 -- what holds of a function at each place holds of an equal one
 pub pointwise : (P : ℕ → ℕ → ℕ → Type 0) (f g : ℕ → ℕ → ℕ) → f ≡ g → ((i j : ℕ) → P i j (g i j)) → (i j : ℕ) → P i j (f i j)
 pointwise P f g e h i j = subst (λ (k : ℕ → ℕ → ℕ). P i j (k i j)) (sym e) (h i j)
+
+-- a square of nothing
+pub nil-square : (i j : ℕ) → gridAt (replicate 16 (replicate 16 (kwh 0))) i j ≡ 0
+nil-square i j =
+    let row : List Kwh = replicate 16 (kwh 0) in
+    let nil : figureAt row j ≡ 0 =
+    ⊎-elim (λ (h : j < 16). ap (λ (x : Kwh). x .0) (getD-replicate 16 j (kwh 0) (kwh 0) h))
+    (λ (h : 16 ≤ j). ap (λ (x : Kwh). x .0) (getD-past row j (kwh 0) h)) (cases-lt j 16) in
+    ⊎-elim (λ (h : i < 16). ap (λ (r : List Kwh). figureAt r j) (getD-replicate 16 i row [] h) ∙ nil)
+    (λ (h : 16 ≤ i). ap (λ (r : List Kwh). figureAt r j) (getD-past (replicate 16 row) i [] h)) (cases-lt i 16)

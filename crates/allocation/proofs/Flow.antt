@@ -69,7 +69,7 @@ module _ (rule : Rule) (law : Keeps rule) where
           )
 
 -- a period's matches sum alike over the senders of either direction
-matched-swap : (p : Period) (d : Direction) → sumTo (way p d .senders) (matched (way p d)) ≡ sumTo (way p (other d) .senders) (matched (way p (other d)))
+pub matched-swap : (p : Period) (d : Direction) → sumTo (way p d .senders) (matched (way p d)) ≡ sumTo (way p (other d) .senders) (matched (way p (other d)))
 matched-swap p NorthSouth = sumTo-swap (p .north) (p .south) (p .matches)
 matched-swap p SouthNorth = sym (sumTo-swap (p .north) (p .south) (p .matches))
 

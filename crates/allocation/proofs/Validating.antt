@@ -141,3 +141,8 @@ module _ (xs : List FiledRow) (p north south : ℕ) (own facing : List Bool) whe
       let at : (λ (i j : ℕ). cond (getD own i false && getD facing j false) (agreed xs p i j) 0) ≡ validMatch north south xs p =
       λ t i j. match-at ownFits facingFits i j t in
       ap {B = ℕ → ℕ → ℕ} (λ (f : ℕ → ℕ → ℕ) (i j : ℕ). cond (getD own i false && getD facing j false) (f i j) 0) e ∙ at
+
+pub match-outside : (xs : List FiledRow) (p north south n s : ℕ) → (15 < n) ⊎ (15 < s) → validMatch north south xs p n s ≡ 0
+match-outside xs p north south n s h =
+    let t = northFits south xs p n && southFits north xs p s in
+    ap (λ (x : ℕ). cond t x 0) (valid-outside xs p Agreed n s h) ∙ cond-nil t

@@ -4,6 +4,7 @@ pub mod Filings
 pub mod Grids
 pub mod Laws
 pub mod Periods
+pub mod Shown
 pub mod Tables
 pub mod Terms
 pub mod Told
