@@ -1,1 +1,2 @@
+pub mod Allocations
 pub mod Rationing
