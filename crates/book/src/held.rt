@@ -4,6 +4,7 @@ ghost use denote.Ref.{now};
 ghost use lib.ListN.{length};
 
 mod calls;
+mod size;
 
 /// Rows that a caller lends, the first of them in use.
 #[derive(Drop)]

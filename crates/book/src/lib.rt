@@ -26,8 +26,5 @@ pub use reading_book::ReadingRowRow;
 pub use reading_row::ReadingKey;
 pub use reading_row::ReadingRow;
 pub use row::Row;
-pub use scan::count_entries;
-pub use scan::entry_at;
-pub use scan::find_row;
 pub use sums::FiledFigure;
 pub use sums::ReadingFigure;

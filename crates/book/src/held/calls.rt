@@ -33,13 +33,6 @@ impl<'a, R: Row> Book<'a, R> {
         }
     }
 
-    /// How many rows are in use.
-    pub fn used(&self) -> usize
-        ensures { λ r. ⌜ r ≡ now (self .entry) .used ⌝ }
-    {
-        self.used
-    }
-
     /// How many entries there are.
     pub fn count(&self) -> usize
         ensures { λ r. ⌜ r ≡ countBy fit (take (now (self .entry) .used) (now (now (self .entry) .rows))) ⌝ }
