@@ -1,7 +1,7 @@
 -- What the senders get, from rows that agree with the definitions as far as there are senders.
 use Prim.Native.Nat.{ℕ, _+_, _-_, _≤_, _<_}
 use mathlib.Core.List.{List}
-use mathlib.Core.Path.{_≡_, ap, sym, _∙_}
+use mathlib.Core.Path.{_≡_, ap, _∙_}
 use native.Mathlib.Omega.{arith}
 use Rattle.std.proofs.shelf.Counted.{fill-by-all}
 use Rattle.energy.specs.declared.unit.Kwh.{Kwh}
@@ -24,7 +24,7 @@ pub award-same : (rule : Rule) (a b n : ℕ) (f g : ℕ → ℕ) → a ≡ b →
 award-same rule a b n f g e same k =
     ap (λ (m : ℕ). award rule m n f k) e ∙ ap (λ (claims : List Kwh). figureAt (rule (kwh b) claims) k) (listed-same n f g same)
 
-module _ (rule : Rule) (law : Keeps rule) (w : Way) (sound : Sound w) (s : ℕ) (held : ℕ → ℕ) (keeps : (k : ℕ) → k < w .senders → held k ≡ kept rule w k) where
+module _ {rule : Rule} (law : Keeps rule) {w : Way} (sound : Sound w) (s : ℕ) {held : ℕ → ℕ} (keeps : (k : ℕ) → k < w .senders → held k ≡ kept rule w k) where
   pub held-small : (k : ℕ) → k < w .senders → held k ≤ 159999984
   held-small k h = omega (arith, keeps k h, kept-le rule law w s (sound .fits) k h, traded-small w sound k)
 
@@ -34,17 +34,18 @@ module _ (rule : Rule) (law : Keeps rule) (w : Way) (sound : Sound w) (s : ℕ) 
   pub held-within : sumTo (w .senders) (matched w) ≤ s → sumTo (w .senders) held ≤ w .ntc + s
   held-within some = omega (arith, held-sum, kept-sum rule law w s (sound .fits) some)
 
-  module _ (short : ℕ → ℕ) (lacks : (k : ℕ) → k < w .senders → short k ≡ traded w k - held k) where
+  module _ {short : ℕ → ℕ} (lacks : (k : ℕ) → k < w .senders → short k ≡ traded w k - held k) where
     short-is : (k : ℕ) → k < w .senders → short k ≡ lacking rule w k
     short-is k h = omega (arith, lacks k h, keeps k h)
 
     pub short-small : sumTo (w .senders) short ≤ 2559999744
     short-small = omega (arith, sumTo-same (w .senders) short (lacking rule w) short-is, lacking-small w sound rule law s)
 
-    module _ (rest : ℕ) (remains : rest ≡ (w .ntc + s) - sumTo (w .senders) held) (second : ℕ → ℕ) (shared : (k : ℕ) → k < w .senders → second k ≡ award rule rest (w .senders) short k) where
+    -- what is left of the capacity and the trade against the flow, and the awards of it
+    module _ {total rest : ℕ} (sums : total ≡ sumTo (w .senders) held) (remains : rest ≡ (w .ntc + s) - total) {second : ℕ → ℕ} (shared : (k : ℕ) → k < w .senders → second k ≡ award rule rest (w .senders) short k) where
       pub grant-is : (k : ℕ) → k < w .senders → held k + second k ≡ granted rule w s k
       grant-is k h =
-          let amount : rest ≡ left rule w s = omega (arith, remains, held-sum) in
+          let amount : rest ≡ left rule w s = omega (arith, sums, remains, held-sum) in
           omega (arith, keeps k h, shared k h, award-same rule rest (left rule w s) (w .senders) short (lacking rule w) amount short-is k)
 
       pub grant-small : (k : ℕ) → k < w .senders → held k + second k ≤ 159999984

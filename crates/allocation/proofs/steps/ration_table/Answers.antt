@@ -1,12 +1,13 @@
 use Prim.Native.Nat.{ℕ, _<_}
 use mathlib.Core.List.{List, []}
-use mathlib.Core.Path.{_≡_, ap, _∙_}
+use mathlib.Core.Path.{_≡_, subst, _∙_}
 use native.Mathlib.Omega.{arith}
 use lib.ListN.{length-set}
 use Rattle.energy.specs.declared.unit.Kwh.{Kwh}
 use Rattle.energy.specs.Grids.{figureAt}
-use Rattle.allocation.specs.Allocation.{award}
+use Rattle.allocation.specs.Allocation.{award, granted}
 use Rattle.allocation.specs.Tables.{wayOf}
+use Rattle.allocation.specs.Told.{gridAt}
 use Rattle.allocation.proofs.Bounds.{traded-small}
 use Rattle.allocation.proofs.Filling.{places-more}
 use Rattle.allocation.proofs.steps.ration_table.Needs as need
@@ -31,5 +32,6 @@ pub returns : need.returns
 returns g c =
     let rule = g .R·RationingRule .awards (c .args .rule .now) in
     let w = wayOf (c .args .table .now) in
-    λ i j h k. c .loop-i .inv .1 i (omega arith) j k
-    ∙ ap (λ (amount : ℕ). award rule amount (w .receivers) (w .trade i) j) (c .granted-by-all-grants .ensures i h)
+    let s = c .args .against .0 in
+    λ i j h k. subst (λ (amount : ℕ). gridAt (c .loop-i .out) i j ≡ award rule amount (w .receivers) (w .trade i) j) {y = granted rule w s i} (c .granted-by-all-grants .ensures i h)
+    (c .loop-i .inv .1 i (omega arith) j k)

@@ -1,7 +1,7 @@
+use native.Mathlib.Omega.{arith}
 use Rattle.allocation.specs.Tables.{wayOf}
 use Rattle.allocation.proofs.Bounds.{traded-small}
 use Rattle.allocation.proofs.steps.traded_by.Needs as need
-use native.Mathlib.Omega.{arith}
 
 pub returns : need.returns
 returns c = record {
