@@ -9,11 +9,17 @@ use Rattle.energy.specs.declared.unit.Kwh.{Kwh}
 use Rattle.allocation.specs.Allocation.{Rule, volume, rationed, allocated}
 use Rattle.allocation.specs.Periods.{Period, Way, way}
 use Rattle.allocation.specs.Told.{gridAt}
+use Rattle.allocation.specs.declared.allocating.Treatment.{Treatment}
+use Rattle.allocation.specs.declared.allocating.Treatment.the-variants.{Nil, Cut, Whole}
 use Rattle.allocation.specs.declared.shown.Allocations.{Allocations}
 
 -- A total passes the other by more than the capacity.
 abbrev pub cutBy : ℕ → ℕ → ℕ → Bool
 cutBy total against capacity = ltb against total && ltb capacity (total - against)
+
+-- Out of service a direction is nil; in service it is cut, or whole.
+abbrev pub treatment : Bool → ℕ → ℕ → ℕ → Treatment
+treatment on total against capacity = cond on (cond (cutBy total against capacity) Cut Whole) Nil
 
 -- One direction's allocations, beside the other direction.
 abbrev pub wayAllocated : Rule → Bool → Way → Way → ℕ → ℕ → ℕ

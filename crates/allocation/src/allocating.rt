@@ -6,7 +6,7 @@ ghost use Rattle.energy.specs.Grids.{sumTo};
 ghost use Rattle.allocation.specs.Allocation.{matched};
 ghost use Rattle.allocation.specs.Filings.{periodIn};
 ghost use Rattle.allocation.specs.Laws.{Lawful};
-ghost use Rattle.allocation.specs.Shown.{shownIn, allocatedIn, wayAllocated, cutBy};
+ghost use Rattle.allocation.specs.Shown.{shownIn, allocatedIn, wayAllocated, treatment};
 ghost use Rattle.allocation.specs.Tables.{wayOf, Sound};
 ghost use Rattle.allocation.specs.Told.{gridAt};
 use crate::figures::figures_of;
@@ -43,6 +43,14 @@ pub fn allocate<R: RationingRule>(
     }
 }
 
+/// What becomes of the trades of a direction.
+#[derive(Clone, Copy)]
+pub enum Treatment {
+    Nil,
+    Cut,
+    Whole,
+}
+
 /// The allocations of one direction.
 fn allocate_way<R: RationingRule>(rule: &R, service: bool, own: &Table, facing: &Table) -> Square
     requires sound { ⌜ Sound (wayOf (now own)) ⌝ }
@@ -50,20 +58,25 @@ fn allocate_way<R: RationingRule>(rule: &R, service: bool, own: &Table, facing: 
     requires exchanged { ⌜ sumTo (now own .senders) (matched (wayOf (now own))) ≡ sumTo (now facing .senders) (matched (wayOf (now facing))) ⌝ }
     ensures { λ r. ⌜ ((i j : ℕ) → i < now (own .entry) .senders → j < now (own .entry) .receivers → gridAt r i j ≡ wayAllocated (awards (now (rule .entry))) service (wayOf (now (own .entry))) (wayOf (now (facing .entry))) i j) ⌝ }
 {
-    if !service {
-        return [[Kwh(0); 16]; 16];
-    }
     let against = volume_of(facing);
-    if is_cut(volume_of(own), against, own.ntc) {
-        ration_table(rule, own, against)
-    } else {
-        own.trade
+    match treatment_of(service, volume_of(own), against, own.ntc) {
+        Treatment::Nil => [[Kwh(0); 16]; 16],
+        Treatment::Cut => ration_table(rule, own, against),
+        Treatment::Whole => own.trade,
     }
 }
 
-/// Whether a direction is dominant and passes its net transfer capacity.
-fn is_cut(total: Kwh, against: Kwh, ntc: Kwh) -> bool
-    ensures { λ r. ⌜ r ≡ cutBy (total .0) (against .0) (ntc .0) ⌝ }
+/// What becomes of a direction: nothing out of service, a cut where it is dominant and passes its net
+/// transfer capacity, and otherwise its trades whole.
+fn treatment_of(service: bool, total: Kwh, against: Kwh, ntc: Kwh) -> Treatment
+    ensures { λ r. ⌜ r ≡ treatment service (total .0) (against .0) (ntc .0) ⌝ }
 {
-    total.0 > against.0 && total.0 - against.0 > ntc.0
+    if !service {
+        return Treatment::Nil;
+    }
+    if total.0 > against.0 && total.0 - against.0 > ntc.0 {
+        Treatment::Cut
+    } else {
+        Treatment::Whole
+    }
 }
