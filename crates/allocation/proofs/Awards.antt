@@ -1,12 +1,9 @@
 -- What the quota law says of one party's award.
-use Prim.Native.Nat.{ℕ, _+_, _-_, _*_, _/_, _≤_, _<_, min}
+use Prim.Native.Nat.{ℕ, _-_, _*_, _/_, _≤_, _<_, min}
 use mathlib.Core.Logic.{⊎-elim}
-use mathlib.Core.Path.{_≡_, ap, subst, sym, _∙_}
-use native.Mathlib.Nat.{mul-comm}
+use mathlib.Core.Path.{_≡_, ap, subst, _∙_}
 use native.Mathlib.Omega.{arith}
-use lib.ListN.{length, getD}
 use Rattle.std.proofs.shelf.Tests.{cases-lt}
-use Rattle.energy.specs.declared.unit.Kwh.{Kwh}
 use Rattle.energy.specs.Grids.{sumTo, listed, figureAt}
 use Rattle.energy.specs.Totals.{sumKwh}
 use Rattle.energy.specs.Units.{kwh}

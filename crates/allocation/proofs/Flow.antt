@@ -1,8 +1,8 @@
 -- The laws of flow and of service, from the quota law alone.
 use Prim.Native.Nat.{ℕ, _+_, _-_, _*_, _/_, _≤_, _<_, min}
-use mathlib.Core.Bool.{Bool, true, false, _&&_, cond}
+use mathlib.Core.Bool.{true, false, _&&_, cond}
 use mathlib.Core.Logic.{⊎-elim}
-use mathlib.Core.Path.{_≡_, refl, ap, subst, sym, _∙_}
+use mathlib.Core.Path.{_≡_, ap, sym, _∙_}
 use native.Mathlib.Nat.{mul-comm}
 use native.Mathlib.Omega.{arith}
 use lib.Dec.{leb, ltb}
@@ -13,8 +13,8 @@ use Rattle.energy.specs.declared.direction.Direction.the-variants.{NorthSouth, 
 use Rattle.energy.specs.Directions.{other}
 use Rattle.energy.specs.Grids.{sumTo}
 use Rattle.energy.proofs.Grids.{sumTo-le, sumTo-same, sumTo-add, sumTo-swap}
-use Rattle.allocation.specs.Allocation.{Rule, traded, matched, unmatched, volume, award, entitled, kept, lacking, left, granted, rationed, dominant, scarce, allocated, sent, received, flow}
-use Rattle.allocation.specs.Laws.{Keeps, Fits, Law, Lawful, LawOfFlow, FlowsMeet, scaled}
+use Rattle.allocation.specs.Allocation.{Rule, traded, matched, unmatched, volume, award, entitled, kept, lacking, left, granted, rationed, dominant, scarce, allocated, sent, flow}
+use Rattle.allocation.specs.Laws.{Keeps, Fits, Law, LawOfFlow, FlowsMeet, scaled}
 use Rattle.allocation.specs.Periods.{Period, Way, way}
 use Rattle.allocation.proofs.Awards.{award-whole, award-le, award-ge, awards-sum}
 

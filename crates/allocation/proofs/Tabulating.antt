@@ -1,23 +1,23 @@
 -- Tables and the directions that they stand for.
-use Prim.Native.Nat.{ℕ, _≤_, _<_, _*_, _+_}
+use Prim.Native.Nat.{ℕ, _≤_, _<_}
 use mathlib.Core.Bool.{Bool, true, false, _&&_, cond}
 use mathlib.Core.List.{List}
 use mathlib.Core.Logic.{_⊎_, inr, ⊎-elim}
 use mathlib.Core.Path.{_≡_, refl, ap, subst, sym, _∙_}
 use native.Mathlib.Omega.{arith}
-use lib.Dec.{leb, ltb}
+use lib.Dec.{ltb}
 use Rattle.std.proofs.shelf.Tests.{cases-lt, cond-both, and-parts, leb-true, ltb-true}
 use Rattle.energy.specs.declared.direction.Direction.{Direction}
 use Rattle.energy.specs.declared.direction.Direction.the-variants.{NorthSouth, SouthNorth}
 use Rattle.energy.specs.declared.unit.Kwh.{Kwh}
 use Rattle.energy.specs.Directions.{other}
 use Rattle.energy.specs.Grids.{sumTo}
-use Rattle.energy.proofs.Grids.{sumTo-none, sumTo-le, sumTo-same}
+use Rattle.energy.proofs.Grids.{sumTo-none, sumTo-le}
 use Rattle.book.specs.declared.filed_row.FiledRow.{FiledRow}
 use Rattle.allocation.specs.Allocation.{Rule, matched, allocated}
 use Rattle.allocation.specs.Filings.{periodIn, periodWith}
 use Rattle.allocation.specs.Laws.{Fits}
-use Rattle.allocation.specs.Periods.{Way, Period, way}
+use Rattle.allocation.specs.Periods.{Way, way}
 use Rattle.allocation.specs.Shown.{figureWithin, allocatedIn, wayAllocated}
 use Rattle.allocation.specs.Tables.{Sound}
 use Rattle.allocation.specs.Told.{gridAt}

@@ -1,6 +1,5 @@
 -- A period as its terms and the rows of a book make it.
-use Prim.Native.Nat.{ℕ, _≤_}
-use mathlib.Core.Bool.{Bool}
+use Prim.Native.Nat.{ℕ}
 use mathlib.Core.List.{List}
 use lib.ListN.{getD}
 use Rattle.energy.specs.declared.unit.Mw.{Mw}

@@ -3,7 +3,7 @@ use Prim.Native.Nat.{ℕ, zero, suc, _+_, _*_, _/_, _%_}
 use mathlib.Core.Path.{_≡_, refl, ap, sym, _∙_}
 use native.Mathlib.Omega.{arith}
 use Rattle.std.proofs.shelf.Bits.{div-add-mod'}
-use Rattle.calendar.specs.Weekdays.{dayAfter, onward}
+use Rattle.calendar.specs.Weekdays.{onward}
 use Rattle.calendar.specs.declared.weekday.Weekday.{Weekday}
 use Rattle.calendar.specs.declared.weekday.Weekday.the-variants.{Monday, Tuesday, Wednesday, Thursday, Friday, Saturday, Sunday}
 

@@ -1,5 +1,5 @@
 -- The makeup factor table, computed from its bands.
-use Prim.Native.Nat.{ℕ, zero, suc, _+_, _-_, _<_, _≤_}
+use Prim.Native.Nat.{ℕ, zero, suc, _+_, _-_, _<_}
 use mathlib.Core.Bool.{Bool, true, _&&_}
 use mathlib.Core.List.{List, [], map}
 use mathlib.Core.Path.{_≡_, refl, ap, subst, _∙_}

@@ -1,12 +1,12 @@
 -- What the register rule hands out: an award for each claim, rounded, that use the amount up.
-use Prim.Native.Nat.{ℕ, zero, suc, _+_, _-_, _*_, _/_, _%_, _<_, _≤_}
-use mathlib.Core.Bool.{Bool, true, false, _&&_, cond}
+use Prim.Native.Nat.{ℕ, zero, suc, _+_, _-_, _*_, _<_, _≤_}
+use mathlib.Core.Bool.{_&&_, cond}
 use mathlib.Core.List.{List, [], _∷_, _++_, append-assoc}
 use mathlib.Core.Logic.{_⊎_, inl, inr, ⊎-elim}
-use mathlib.Core.Path.{_≡_, refl, ap, subst, sym, _∙_}
+use mathlib.Core.Path.{_≡_, refl, ap, subst, sym}
 use native.Mathlib.Nat.{div-add-mod, mul-add, mul-comm, le-of-mul-le-mul-left, le-of-suc-le-suc, not-suc-le-zero}
 use native.Mathlib.Omega.{arith}
-use lib.Dec.{ltb, leb}
+use lib.Dec.{ltb}
 use lib.ListN.{length, getD, take, drop, set}
 use Rattle.std.proofs.shelf.Bits.{mod-below}
 use Rattle.std.proofs.shelf.Lists.{at-drop-more, take-more-set}

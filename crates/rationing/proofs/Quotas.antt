@@ -1,5 +1,5 @@
 -- A rule that gives each its claim where the amount covers the claims owes the quota law only elsewhere.
-use Prim.Native.Nat.{ℕ, _*_, _<_, _≤_}
+use Prim.Native.Nat.{ℕ, _*_, _<_}
 use mathlib.Core.List.{List}
 use mathlib.Core.Path.{_≡_, refl, ap, subst, sym, _∙_}
 use lib.ListN.{length, getD}

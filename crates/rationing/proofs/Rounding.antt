@@ -1,7 +1,7 @@
 -- What comes from rounding down, with at most one kWh on top, is rounded down or up.
 use Prim.Native.Nat.{ℕ, _+_, _-_, _*_, _/_, _%_, _<_, _≤_}
 use mathlib.Core.Logic.{_⊎_, inl, inr, ⊎-elim}
-use mathlib.Core.Path.{_≡_, ap, sym, _∙_}
+use mathlib.Core.Path.{sym}
 use native.Mathlib.Nat.{add-mul, le-of-lt, mul-comm, mul-le-mul-right, mul-le-mul-left, mul-lt-mul-of-pos-right, div-le-self}
 use native.Mathlib.Omega.{arith}
 use Rattle.std.proofs.shelf.Bits.{div-below}

@@ -1,5 +1,4 @@
 // Which lists of claims a rule answers.
-ghost use lib.ListN.{length};
 ghost use mathlib.Core.Path.{_≡_};
 ghost use Rattle.rationing.specs.Admission.{admission};
 use crate::refusal::RationingRefusal;

@@ -3,9 +3,9 @@ use Prim.Native.Nat.{ℕ}
 use mathlib.Core.Bool.{Bool, true, false}
 use mathlib.Core.List.{List, [], _∷_, _++_, map}
 use mathlib.Core.Path.{_≡_}
-use lib.ListN.{length, getD}
+use lib.ListN.{getD}
 use Rattle.std.specs.Iters.{counting}
-use Rattle.energy.specs.declared.direction.Direction.the-variants.{NorthSouth, SouthNorth}
+use Rattle.energy.specs.declared.direction.Direction.the-variants.{NorthSouth}
 use Rattle.energy.specs.declared.side.Side.{Side}
 use Rattle.energy.specs.declared.side.Side.the-variants.{Northern, Southern}
 use Rattle.energy.specs.Units.{kwh, mw}

@@ -1,9 +1,5 @@
-use Prim.Native.Nat.{ℕ}
-use mathlib.Core.Path.{_≡_}
-use Rattle.energy.specs.declared.direction.Direction.{Direction}
 use Rattle.energy.specs.declared.direction.Direction.the-variants.{NorthSouth, SouthNorth}
 use Rattle.allocation.specs.Filings.{periodIn}
-use Rattle.allocation.specs.Shown.{shownIn, allocatedIn}
 use Rattle.allocation.proofs.Flow.{lawful}
 use Rattle.allocation.proofs.Tabulating.{way-is, paired, shown-is, matches-fit, sn-nil, match-nil, each-way}
 use Rattle.allocation.proofs.allocating.allocate.Needs as need

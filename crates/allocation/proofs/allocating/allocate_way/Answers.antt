@@ -6,7 +6,6 @@ use Rattle.std.proofs.shelf.Tests.{cond-false}
 use Rattle.energy.proofs.Grids.{sumTo-le}
 use Rattle.allocation.specs.Allocation.{traded, matched}
 use Rattle.allocation.specs.Tables.{wayOf}
-use Rattle.allocation.specs.declared.allocating.Treatment.{Treatment}
 use Rattle.allocation.specs.declared.allocating.Treatment.the-variants.{Nil, Cut, Whole}
 use Rattle.allocation.proofs.Bounds.{volume-small}
 use Rattle.allocation.proofs.Filling.{nil-square}

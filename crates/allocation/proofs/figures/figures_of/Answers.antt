@@ -1,11 +1,11 @@
-use Prim.Native.Nat.{ℕ, _≤_, _<_}
+use Prim.Native.Nat.{ℕ, _≤_}
 use mathlib.Core.Logic.{inr}
 use mathlib.Core.Path.{_≡_, ap, _∙_}
 use native.Mathlib.Omega.{arith}
 use lib.Dec.{leb}
 use Rattle.energy.specs.Grids.{sumTo}
 use Rattle.allocation.specs.Told.{gridAt}
-use Rattle.allocation.specs.Trades.{validNs, validSn, agreed}
+use Rattle.allocation.specs.Trades.{agreed}
 use Rattle.allocation.specs.declared.told.Told.the-variants.{Ns, Sn, Agreed}
 use Rattle.allocation.proofs.Filling.{pointwise}
 use Rattle.allocation.proofs.Validating.{read-off, valid-small, valid-outside, match-is}

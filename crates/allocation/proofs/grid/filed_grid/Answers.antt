@@ -1,11 +1,11 @@
-use Prim.Native.Nat.{ℕ, _+_, _-_, _<_, _≤_}
-use mathlib.Core.List.{List, []}
+use Prim.Native.Nat.{_+_, _-_, _<_}
+use mathlib.Core.List.{[]}
 use mathlib.Core.Path.{_≡_, subst, sym}
 use native.Mathlib.Omega.{arith}
 use lib.ListN.{length, getD, set}
 use Rattle.std.proofs.shelf.Lists.{getD-default}
 use Rattle.allocation.specs.declared.cell.Cell.{Cell}
-use Rattle.allocation.proofs.Gathering.{Square, Gathered, noRow, square-blank, gathered-blank, square-set, gathered-in, gathered-out, grid-is, standing-inside}
+use Rattle.allocation.proofs.Gathering.{Gathered, noRow, square-blank, gathered-blank, square-set, gathered-in, gathered-out, grid-is, standing-inside}
 use Rattle.allocation.proofs.grid.filed_grid.Needs as need
 
 pub loop-k-holds : need.loop-k-holds

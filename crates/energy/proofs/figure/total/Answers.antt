@@ -1,10 +1,9 @@
-use Prim.Native.Nat.{ℕ, _+_, _<_, _^_, _≤_}
-use mathlib.Core.Path.{_≡_, ap, sym, _∙_}
+use Prim.Native.Nat.{_+_}
+use mathlib.Core.Path.{_≡_, ap, _∙_}
 use native.Mathlib.Omega.{arith}
-use lib.ListN.{take, getD}
 use Rattle.std.proofs.shelf.Sums.{sumBy-more, sumBy-take-le}
 use Rattle.std.proofs.shelf.Lists.{take-all}
-use Rattle.energy.specs.Totals.{sumOf, within64}
+use Rattle.energy.specs.Totals.{sumOf}
 use Rattle.energy.proofs.Totals.{within-fits, within-past}
 use Rattle.energy.proofs.figure.total.Needs as need
 

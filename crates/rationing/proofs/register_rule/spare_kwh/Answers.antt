@@ -1,11 +1,11 @@
 use Prim.Native.Nat.{_+_, _≤_}
-use mathlib.Core.Path.{_≡_, ap}
+use mathlib.Core.Path.{ap}
 use native.Mathlib.Omega.{arith}
 use Rattle.std.proofs.shelf.Lists.{take-all}
 use Rattle.std.proofs.shelf.Sums.{sumBy-more, sumBy-take-le}
-use Rattle.energy.specs.Totals.{sumKwh, sumOf}
+use Rattle.energy.specs.Totals.{sumOf}
 use Rattle.energy.specs.Units.{kwh}
-use Rattle.rationing.specs.Register.{down, spare}
+use Rattle.rationing.specs.Register.{down}
 use Rattle.rationing.proofs.Handing.{downs-le}
 use Rattle.rationing.proofs.register_rule.spare_kwh.Needs as need
 

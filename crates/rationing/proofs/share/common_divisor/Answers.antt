@@ -1,4 +1,4 @@
-use Prim.Native.Nat.{ℕ, _≤_, _∣_}
+use Prim.Native.Nat.{ℕ, _∣_}
 use mathlib.Core.Path.{_≡_, subst, sym}
 use native.Mathlib.Nat.{dvd-mod-iff, dvd-refl, dvd-zero}
 use native.Mathlib.Omega.{arith}
