@@ -17,10 +17,11 @@ use Rattle.book.specs.FiledRows.{filedFit, filedUnder}
 use Rattle.book.specs.declared.filed_row.FiledKey.{FiledKey}
 use Rattle.book.specs.declared.filed_row.FiledKind.the-variants.{Trade, Match}
 use Rattle.book.specs.declared.filed_row.FiledRow.{FiledRow}
-use Rattle.allocation.specs.Cells.{filed, keyOf, amountsIn, cellOf}
+use Rattle.allocation.specs.Cells.{filed, keyOf, amountsIn, amountsOf, cellOf}
 use Rattle.allocation.specs.Grids.{cellIn}
 use Rattle.allocation.specs.Told.{both, four, toldIn}
-use Rattle.allocation.specs.Trades.{alike, validNs, validSn, sameFour, agreed, northFits, southFits, validMatch}
+use Rattle.allocation.specs.Trades.{alike, validated, validNs, validSn, sameFour, agreed, northFits, southFits, validMatch}
+use Rattle.allocation.specs.declared.cell.Amounts.{Amounts}
 use Rattle.allocation.specs.declared.cell.Cell.{Cell}
 use Rattle.allocation.specs.declared.told.Told.{Told}
 use Rattle.allocation.specs.declared.told.Told.the-variants.{Ns, Sn, Agreed}
@@ -33,17 +34,13 @@ cond-nil false = refl
 lone : (a : ℕ) → cond (eqb a 0) a 0 ≡ 0
 lone a = grind (arith, tells)
 
-ns-alike : (a b : Option FiledRow) → both (amountsIn a .ns .0) (amountsIn b .ns .0) ≡ alike (mapped (λ x. x .ns .0) a) (mapped (λ x. x .ns .0) b)
-ns-alike None None = refl
-ns-alike None (Some y) = cond-nil (eqb 0 (y .ns .0))
-ns-alike (Some x) None = lone (x .ns .0)
-ns-alike (Some x) (Some y) = refl
-
-sn-alike : (a b : Option FiledRow) → both (amountsIn a .sn .0) (amountsIn b .sn .0) ≡ alike (mapped (λ x. x .sn .0) a) (mapped (λ x. x .sn .0) b)
-sn-alike None None = refl
-sn-alike None (Some y) = cond-nil (eqb 0 (y .sn .0))
-sn-alike (Some x) None = lone (x .sn .0)
-sn-alike (Some x) (Some y) = refl
+-- either amount of what was filed
+module _ (read : Amounts → ℕ) (nil : read (amountsIn None) ≡ 0) where
+  read-alike : (a b : Option FiledRow) → both (read (amountsIn a)) (read (amountsIn b)) ≡ alike (mapped (λ x. read (amountsOf x)) a) (mapped (λ x. read (amountsOf x)) b)
+  read-alike None None = ap (λ (m : ℕ). both m m) nil
+  read-alike None (Some y) = ap (λ (m : ℕ). both m (read (amountsOf y))) nil ∙ cond-nil (eqb 0 (read (amountsOf y)))
+  read-alike (Some x) None = ap (both (read (amountsOf x))) nil ∙ lone (read (amountsOf x))
+  read-alike (Some x) (Some y) = refl
 
 four-alike : (a b : Option FiledRow) → four (amountsIn a) (amountsIn b) ≡ sameFour a b
 four-alike None None = refl
@@ -59,16 +56,20 @@ module _ (xs : List FiledRow) (p : ℕ) where
   valid Agreed = agreed xs p
 
   told-valid : (what : Told) (n s : ℕ) → toldIn what (cellOf xs p n s) ≡ valid what n s
-  told-valid Ns n s = ns-alike (filed xs (keyOf p Trade Northern n s)) (filed xs (keyOf p Trade Southern n s))
-  told-valid Sn n s = sn-alike (filed xs (keyOf p Trade Northern n s)) (filed xs (keyOf p Trade Southern n s))
+  told-valid Ns n s = read-alike (λ a. a .ns .0) refl (filed xs (keyOf p Trade Northern n s)) (filed xs (keyOf p Trade Southern n s))
+  told-valid Sn n s = read-alike (λ a. a .sn .0) refl (filed xs (keyOf p Trade Northern n s)) (filed xs (keyOf p Trade Southern n s))
   told-valid Agreed n s = four-alike (filed xs (keyOf p Match Northern n s)) (filed xs (keyOf p Match Southern n s))
 
   pub told-is : (what : Told) → (λ (n s : ℕ). toldIn what (cellOf xs p n s)) ≡ valid what
   told-is what = λ i n s. told-valid what n s i
 
+  trade-outside : (amount : FiledRow → ℕ) (n s : ℕ) → (15 < n) ⊎ (15 < s) → validated amount xs p n s ≡ 0
+  trade-outside amount n s h =
+      ap (λ (o : Option FiledRow). alike (mapped amount o) (mapped amount (filed xs (keyOf p Trade Southern n s)))) (filed-outside xs (keyOf p Trade Northern n s) h)
+
   pub valid-outside : (what : Told) (n s : ℕ) → (15 < n) ⊎ (15 < s) → valid what n s ≡ 0
-  valid-outside Ns n s h = ap (λ (o : Option FiledRow). alike (mapped (λ x. x .ns .0) o) (mapped (λ x. x .ns .0) (filed xs (keyOf p Trade Southern n s)))) (filed-outside xs (keyOf p Trade Northern n s) h)
-  valid-outside Sn n s h = ap (λ (o : Option FiledRow). alike (mapped (λ x. x .sn .0) o) (mapped (λ x. x .sn .0) (filed xs (keyOf p Trade Southern n s)))) (filed-outside xs (keyOf p Trade Northern n s) h)
+  valid-outside Ns n s h = trade-outside (λ x. x .ns .0) n s h
+  valid-outside Sn n s h = trade-outside (λ x. x .sn .0) n s h
   valid-outside Agreed n s h = ap (λ (o : Option FiledRow). sameFour o (filed xs (keyOf p Match Southern n s))) (filed-outside xs (keyOf p Match Northern n s) h)
 
 -- a square read off the cells of a period's filings
@@ -98,15 +99,10 @@ pub cond-small : (t : Bool) (a : ℕ) → a ≤ 9999999 → cond t a 0 ≤ 99999
 cond-small true a h = h
 cond-small false a h = omega arith
 
-ns-small : (a b : Option FiledRow) → Small a → alike (mapped (λ x. x .ns .0) a) (mapped (λ x. x .ns .0) b) ≤ 9999999
-ns-small None b h = omega arith
-ns-small (Some x) None h = omega arith
-ns-small (Some x) (Some y) h = cond-small (eqb (x .ns .0) (y .ns .0)) (x .ns .0) (h .0)
-
-sn-small : (a b : Option FiledRow) → Small a → alike (mapped (λ x. x .sn .0) a) (mapped (λ x. x .sn .0) b) ≤ 9999999
-sn-small None b h = omega arith
-sn-small (Some x) None h = omega arith
-sn-small (Some x) (Some y) h = cond-small (eqb (x .sn .0) (y .sn .0)) (x .sn .0) (h .1)
+alike-small : (amount : FiledRow → ℕ) → ((x : FiledRow) → (x .ns .0 ≤ 9999999) × (x .sn .0 ≤ 9999999) → amount x ≤ 9999999) → (a b : Option FiledRow) → Small a → alike (mapped amount a) (mapped amount b) ≤ 9999999
+alike-small amount within None b h = omega arith
+alike-small amount within (Some x) None h = omega arith
+alike-small amount within (Some x) (Some y) h = cond-small (eqb (amount x) (amount y)) (amount x) (within x h)
 
 four-small : (a b : Option FiledRow) → Small a → sameFour a b ≤ 9999999
 four-small None b h = omega arith
@@ -114,8 +110,8 @@ four-small (Some x) None h = omega arith
 four-small (Some x) (Some y) h = cond-small (eqb (x .ns .0) (x .sn .0) && (eqb (x .ns .0) (y .ns .0) && eqb (x .ns .0) (y .sn .0))) (x .ns .0) (h .0)
 
 pub valid-small : (xs : List FiledRow) (p : ℕ) (what : Told) (n s : ℕ) → valid xs p what n s ≤ 9999999
-valid-small xs p Ns n s = ns-small (filed xs (keyOf p Trade Northern n s)) (filed xs (keyOf p Trade Southern n s)) (filed-small xs (keyOf p Trade Northern n s))
-valid-small xs p Sn n s = sn-small (filed xs (keyOf p Trade Northern n s)) (filed xs (keyOf p Trade Southern n s)) (filed-small xs (keyOf p Trade Northern n s))
+valid-small xs p Ns n s = alike-small (λ x. x .ns .0) (λ x h. h .0) (filed xs (keyOf p Trade Northern n s)) (filed xs (keyOf p Trade Southern n s)) (filed-small xs (keyOf p Trade Northern n s))
+valid-small xs p Sn n s = alike-small (λ x. x .sn .0) (λ x h. h .1) (filed xs (keyOf p Trade Northern n s)) (filed xs (keyOf p Trade Southern n s)) (filed-small xs (keyOf p Trade Northern n s))
 valid-small xs p Agreed n s = four-small (filed xs (keyOf p Match Northern n s)) (filed xs (keyOf p Match Southern n s)) (filed-small xs (keyOf p Match Northern n s))
 
 -- the matches that fit on both sides are the validated ones

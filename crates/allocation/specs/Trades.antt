@@ -19,13 +19,15 @@ alike (Some a) None = 0
 alike (Some a) (Some b) = cond (eqb a b) a 0
 
 -- A trade is validated in one direction when both parties filed the same kWh there; flags play no part.
+abbrev pub validated : (FiledRow → ℕ) → List FiledRow → ℕ → ℕ → ℕ → ℕ
+validated amount xs p n s =
+    alike (mapped amount (filed xs (keyOf p Trade Northern n s))) (mapped amount (filed xs (keyOf p Trade Southern n s)))
+
 abbrev pub validNs : List FiledRow → ℕ → ℕ → ℕ → ℕ
-validNs xs p n s =
-    alike (mapped (λ x. x .ns .0) (filed xs (keyOf p Trade Northern n s))) (mapped (λ x. x .ns .0) (filed xs (keyOf p Trade Southern n s)))
+validNs = validated (λ x. x .ns .0)
 
 abbrev pub validSn : List FiledRow → ℕ → ℕ → ℕ → ℕ
-validSn xs p n s =
-    alike (mapped (λ x. x .sn .0) (filed xs (keyOf p Trade Northern n s))) (mapped (λ x. x .sn .0) (filed xs (keyOf p Trade Southern n s)))
+validSn = validated (λ x. x .sn .0)
 
 -- A match is agreed when both filed it and all four amounts are equal.
 abbrev pub sameFour : Option FiledRow → Option FiledRow → ℕ
