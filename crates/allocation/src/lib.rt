@@ -1,4 +1,6 @@
 // The allocated trades of a period, and the laws of flow and of service.
+#![tactic(auto)]
+
 ghost use Rattle.allocation.specs.Laws.{LawOfFlow, FlowsMeet};
 
 mod allocating;

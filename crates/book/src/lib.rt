@@ -1,4 +1,6 @@
 // Books: rows that a caller lends, and the entries that stand in them under keys.
+#![tactic(auto)]
+
 mod fault;
 mod filed_book;
 mod filed_entry;

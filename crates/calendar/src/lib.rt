@@ -1,4 +1,6 @@
 // Trading days: their dates, weekdays, periods and seasons, and where they fall in the makeup factor table.
+#![tactic(auto)]
+
 mod column;
 mod date;
 mod day;

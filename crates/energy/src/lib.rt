@@ -1,4 +1,6 @@
 // Units, sides, directions and party codes, and the one routine that adds up kWh figures.
+#![tactic(auto)]
+
 pub mod direction;
 pub mod figure;
 pub mod party_code;

@@ -1,4 +1,6 @@
 // A nomination file into a book, whole or not at all, and a party's entries as a file.
+#![tactic(auto)]
+
 mod admit;
 mod detail;
 mod fault;

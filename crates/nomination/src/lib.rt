@@ -1,4 +1,6 @@
 // The text of a nomination file: how it is parted into lines and fields, what these say, and how a line is written.
+#![tactic(auto)]
+
 mod amount;
 mod detail;
 mod digits;

@@ -1,4 +1,6 @@
 // What spill and makeup cost: Demand Error, the makeup factor table, and the editions of the prices.
+#![tactic(auto)]
+
 mod demand_error;
 mod edition;
 mod edition3;

@@ -1,4 +1,6 @@
 // Sharing an amount of energy out among claims, in whole kWh.
+#![tactic(auto)]
+
 mod admission;
 mod chosen_rule;
 mod dividing;

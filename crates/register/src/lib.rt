@@ -1,4 +1,6 @@
 // The register of parties, and the table of what is in force in each period.
+#![tactic(auto)]
+
 mod limits;
 mod party;
 mod period_row;

@@ -1,4 +1,6 @@
 // The program: words from the command line to calls, answers to text.
+#![tactic(auto)]
+
 mod award_line;
 mod command;
 mod complaint;

@@ -1,4 +1,6 @@
 // Worked numbers: as theorems about the definitions, and run as tests of the code.
+#![tactic(auto)]
+
 ghost use Rattle.worked.specs.Allocations.{WorkedAllocations};
 ghost use Rattle.worked.specs.Rationing.{WorkedAwards};
 

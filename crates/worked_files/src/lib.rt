@@ -1,4 +1,6 @@
 // Nomination files worked by hand, run as tests of the code.
+#![tactic(auto)]
+
 #[cfg(test)]
 mod field_tests;
 #[cfg(test)]
