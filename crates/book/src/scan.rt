@@ -7,7 +7,7 @@ use crate::row::Row;
 
 /// The place of the first entry under a key.
 pub fn find_row<R: Row>(rows: &[R], key: &R::Key) -> Option<usize>
-    ensures { result ≡ place_under fit under key.now rows.now }
+    ensures { result ≡ place_under R.fit R.under key.now rows.now }
 {
     for (i, row) in rows.iter().enumerate() {
         if stands_under(row, key) {
@@ -19,14 +19,14 @@ pub fn find_row<R: Row>(rows: &[R], key: &R::Key) -> Option<usize>
 
 /// Whether a row stands for an entry under a key.
 fn stands_under<R: Row>(row: &R, key: &R::Key) -> bool
-    ensures { result ≡ (fit row.now && under row.now key.now) }
+    ensures { result ≡ (R.fit row.now && R.under row.now key.now) }
 {
     row.is_fit() && row.is_under(key)
 }
 
 /// How many of the rows stand for entries.
 pub fn count_entries<R: Row>(rows: &[R]) -> usize
-    ensures { result ≡ count_by fit rows.now }
+    ensures { result ≡ count_by R.fit rows.now }
 {
     let mut count = 0;
     for row in rows {
@@ -39,7 +39,7 @@ pub fn count_entries<R: Row>(rows: &[R]) -> usize
 
 /// The entry at a place, if the row there stands for one.
 pub fn entry_at<R: Row>(rows: &[R], at: usize) -> Option<R::Entry>
-    ensures { option_map written result ≡ entry_at fit at rows.now }
+    ensures { option_map R.written result ≡ entry_at R.fit at rows.now }
 {
     if at >= rows.len() {
         return None;

@@ -23,7 +23,7 @@ impl EnergyFigure for Kwh {
 
 /// The sum of the figures, or none where it passes 64 bits.
 pub fn total<T: EnergyFigure>(items: &[T]) -> Option<Kwh>
-    ensures { result ≡ within64 (sum_of figure items.now) }
+    ensures { result ≡ within64 (sum_of T.figure items.now) }
 {
     let mut sum: u64 = 0;
     for item in items {

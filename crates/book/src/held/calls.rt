@@ -27,14 +27,14 @@ impl<'a, R: Row> Book<'a, R> {
 
     /// How many entries there are.
     pub fn count(&self) -> usize
-        ensures { result ≡ count_by fit (take self.now.used self.now.rows.now) }
+        ensures { result ≡ count_by R.fit (take self.now.used self.now.rows.now) }
     {
         count_entries(&self.rows[0..self.used])
     }
 
     /// How many entries more the book takes.
     pub fn space_left(&self) -> usize
-        ensures { result ≡ space_left most self.now.rows.now self.now.used }
+        ensures { result ≡ space_left R.most self.now.rows.now self.now.used }
     {
         self.rows
             .len()
@@ -44,21 +44,21 @@ impl<'a, R: Row> Book<'a, R> {
 
     /// The place of the first entry under a key.
     pub fn find(&self, key: R::Key) -> Option<usize>
-        ensures { result ≡ place_under fit under key (take self.now.used self.now.rows.now) }
+        ensures { result ≡ place_under R.fit R.under key (take self.now.used self.now.rows.now) }
     {
         find_row(&self.rows[0..self.used], &key)
     }
 
     /// The entry at a place, if a row in use there stands for one.
     pub fn entry(&self, at: usize) -> Option<R::Entry>
-        ensures { option_map written result ≡ entry_at fit at (take self.now.used self.now.rows.now) }
+        ensures { option_map R.written result ≡ entry_at R.fit at (take self.now.used self.now.rows.now) }
     {
         entry_at(&self.rows[0..self.used], at)
     }
 
     /// Adds an entry behind the rows in use.
     pub fn add(&mut self, entry: R::Entry) -> Result<(), BookFull>
-        ensures answer { (self.new.rows.now, self.new.used, result) ≡ added most no_space self.old.rows.now self.old.used (written entry) }
+        ensures answer { (self.new.rows.now, self.new.used, result) ≡ added R.most no_space self.old.rows.now self.old.used (R.written entry) }
         ensures lender { self.new.rows.ghost_name ≡ self.old.rows.ghost_name }
     {
         if self.space_left() == 0 {
@@ -72,7 +72,7 @@ impl<'a, R: Row> Book<'a, R> {
 
     /// Puts an entry in the place of a row in use.
     pub fn change(&mut self, at: usize, entry: R::Entry) -> Result<(), NotInUse>
-        ensures answer { (self.new.rows.now, result) ≡ changed not_there self.old.rows.now self.old.used at (written entry) }
+        ensures answer { (self.new.rows.now, result) ≡ changed not_there self.old.rows.now self.old.used at (R.written entry) }
         ensures used { self.new.used ≡ self.old.used }
         ensures lender { self.new.rows.ghost_name ≡ self.old.rows.ghost_name }
     {
@@ -87,7 +87,7 @@ impl<'a, R: Row> Book<'a, R> {
 impl<'a, R: Row + EnergyFigure> Book<'a, R> {
     /// The sum of the figures of the entries, or none where it passes 64 bits.
     pub fn total(&self) -> Option<Kwh>
-        ensures { result ≡ within64 (sum_of figure (take self.now.used self.now.rows.now)) }
+        ensures { result ≡ within64 (sum_of R.figure (take self.now.used self.now.rows.now)) }
     {
         total(&self.rows[0..self.used])
     }

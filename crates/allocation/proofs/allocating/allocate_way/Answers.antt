@@ -18,10 +18,10 @@ pub returns-in-Nil : goal.returns-in-Nil
 returns-in-Nil g c i j hi hj = nil_square i j ∙ sym (cond-false c.args.service _ 0 (off c.args.service _ c.in-Nil.ensures))
 
 -- matches count alike on both sides, so that those of the senders stay within the trade against them
-pub ration-table-requires : goal.ration-table-requires
-ration-table-requires g c =
+pub ration_table-requires : goal.ration_table-requires
+ration_table-requires g c =
     let v = way_of c.args.facing.now in
-    let against = c.volume-of-against.ensures in
+    let against = c.volume_of-against.ensures in
     record {
       sound = c.requires.sound;
       covered = omega (arith, c.requires.exchanged, sum_to_le v.senders (matched v) (traded v) c.requires.facingsound.fits);

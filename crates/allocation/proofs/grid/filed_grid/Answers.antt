@@ -7,8 +7,8 @@ use Rattle.allocation.proofs.grid.filed_grid.Goals as goal
 pub loop-k-init : goal.loop-k-init
 loop-k-init c = (square_blank, omega arith, gathered_blank c.args.rows.now c.args.period (length c.args.rows.now) (omega arith))
 
-pub loop-k-preserved-then-stands-in : goal.loop-k-preserved-then-stands-in
-loop-k-preserved-then-stands-in c =
+pub loop-k-preserved-then-stands_in : goal.loop-k-preserved-then-stands_in
+loop-k-preserved-then-stands_in c =
     let rows = c.args.rows.now in
     let p = c.args.period in
     let k = c.loop-k.k - 1 in
@@ -17,7 +17,7 @@ loop-k-preserved-then-stands-in c =
     let within : k < length rows = omega arith in
     let up : c.loop-k.k ≡ k + 1 = omega arith in
     let before = subst (Gathered g rows p) up c.loop-k.invariant.2 in
-    let stands = sym c.if-stands-in.ensures in
+    let stands = sym c.if-stands_in.ensures in
     let inside = standing_inside x p stands in (
       square_set g x.north x.south c.with.result c.loop-k.invariant.0,
       omega arith,
@@ -35,7 +35,7 @@ loop-k-preserved c =
     let before = subst (Gathered c.loop-k.cells rows c.args.period) up c.loop-k.invariant.2 in (
       c.loop-k.invariant.0,
       omega arith,
-      gathered_out c.loop-k.cells rows c.args.period k x within (get_or_default rows k no_row x within) (sym c.if-stands-in.ensures) before,
+      gathered_out c.loop-k.cells rows c.args.period k x within (get_or_default rows k no_row x within) (sym c.if-stands_in.ensures) before,
     )
 
 pub returns : goal.returns

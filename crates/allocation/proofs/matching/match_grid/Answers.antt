@@ -12,9 +12,9 @@ loop-i-preserved c =
     let own = c.args.own.now in
     let facing = c.args.facing.now in
     let agreed = c.args.agreed.now in (
-      length-set c.loop-i.out c.loop-i.i c.match-row.result ∙ c.loop-i.invariant.0,
-      places_more (λ (k : ℕ) (x : List Kwh). figure_at x ≡ (λ (j : ℕ). cond (get_or own k false && get_or facing j false) (grid_at agreed k j) 0)) [] c.loop-i.out c.loop-i.i c.match-row.result
-          (omega arith) c.match-row.ensures c.loop-i.invariant.1,
+      length-set c.loop-i.out c.loop-i.i c.match_row.result ∙ c.loop-i.invariant.0,
+      places_more (λ (k : ℕ) (x : List Kwh). figure_at x ≡ (λ (j : ℕ). cond (get_or own k false && get_or facing j false) (grid_at agreed k j) 0)) [] c.loop-i.out c.loop-i.i c.match_row.result
+          (omega arith) c.match_row.ensures c.loop-i.invariant.1,
     )
 
 pub returns : goal.returns

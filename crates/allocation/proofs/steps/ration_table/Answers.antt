@@ -18,7 +18,7 @@ pub loop-i-preserved : goal.loop-i-preserved
 loop-i-preserved g c =
     let rule = g.R.RationingRule.awards c.args.rule.now in
     let w = way_of c.args.table.now in
-    let grants = c.granted-by-all-grants.result in (
+    let grants = c.granted_by_all-grants.result in (
       length-set c.loop-i.out c.loop-i.i c.share.result ∙ c.loop-i.invariant.0,
       places_more (λ (k : ℕ) (x : List Kwh). (j : ℕ) → j < w.receivers → figure_at x j ≡ award rule (figure_at grants k) w.receivers (w.trade k) j) [] c.loop-i.out c.loop-i.i c.share.result
           (omega arith) c.share.ensures c.loop-i.invariant.1,
@@ -29,5 +29,5 @@ returns g c =
     let rule = g.R.RationingRule.awards c.args.rule.now in
     let w = way_of c.args.table.now in
     let s = c.args.against.0 in
-    λ i j h k. subst (λ (amount : ℕ). grid_at c.loop-i.out i j ≡ award rule amount w.receivers (w.trade i) j) {y = granted rule w s i} (c.granted-by-all-grants.ensures i h)
+    λ i j h k. subst (λ (amount : ℕ). grid_at c.loop-i.out i j ≡ award rule amount w.receivers (w.trade i) j) {y = granted rule w s i} (c.granted_by_all-grants.ensures i h)
     (c.loop-i.invariant.1 i (omega arith) j k)

@@ -5,6 +5,6 @@ use Rattle.allocation.proofs.steps.traded_by.Goals as goal
 
 pub returns : goal.returns
 returns c = record {
-  value = c.sum-of.ensures;
+  value = c.sum_of.ensures;
   small = omega (arith, traded_small (way_of c.args.table.now) c.requires.sound c.args.i);
 }

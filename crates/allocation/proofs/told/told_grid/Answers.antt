@@ -13,9 +13,9 @@ pub loop-n-preserved : goal.loop-n-preserved
 loop-n-preserved c =
     let what = c.args.what in
     let cells = c.args.cells.now in (
-      length-set c.loop-n.out c.loop-n.n c.told-row.result ∙ c.loop-n.invariant.0,
-      places_more (λ (k : ℕ) (x : List Kwh). figure_at x ≡ (λ (s : ℕ). told_in what (cell_in cells k s))) [] c.loop-n.out c.loop-n.n c.told-row.result
-          (omega arith) c.told-row.ensures c.loop-n.invariant.1,
+      length-set c.loop-n.out c.loop-n.n c.told_row.result ∙ c.loop-n.invariant.0,
+      places_more (λ (k : ℕ) (x : List Kwh). figure_at x ≡ (λ (s : ℕ). told_in what (cell_in cells k s))) [] c.loop-n.out c.loop-n.n c.told_row.result
+          (omega arith) c.told_row.ensures c.loop-n.invariant.1,
     )
 
 pub returns : goal.returns

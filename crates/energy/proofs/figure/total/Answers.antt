@@ -5,22 +5,22 @@ use Rattle.energy.specs.Totals.{sum_of}
 use Rattle.energy.proofs.Totals.{within_fits, within_past}
 use Rattle.energy.proofs.figure.total.Goals as goal
 
-pub returns-in-err-sum : goal.returns-in-err-sum
-returns-in-err-sum g c =
+pub returns-in_err-sum : goal.returns-in_err-sum
+returns-in_err-sum g c =
     let figure = g.T.EnergyFigure.figure in
     let items = c.args.items.now in
     let more = sum_by_more figure items c.loop-item.item-index c.item-item.result c.loop-item-test.true in
     let read = ap figure c.item-item.is in
     let part = sum_by-take-le figure items (c.loop-item.item-index + 1) in
-    let full = c.in-err-sum.ensures in
-    c.from-residual.ensures ∙ within_past (sum_of figure items) (omega arith)
+    let full = c.in_err-sum.ensures in
+    c.from_residual.ensures ∙ within_past (sum_of figure items) (omega arith)
 
 pub loop-item-preserved : goal.loop-item-preserved
 loop-item-preserved g c =
     let figure = g.T.EnergyFigure.figure in
     let more = sum_by_more figure c.args.items.now c.loop-item.item-index c.item-item.result c.loop-item-test.true in
     let read = ap figure c.item-item.is in
-    let added = c.in-ok-sum.ensures in
+    let added = c.in_ok-sum.ensures in
     (omega arith, omega arith)
 
 pub returns : goal.returns

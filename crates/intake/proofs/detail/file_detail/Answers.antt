@@ -10,10 +10,10 @@ pub returns : goal.returns
 returns c =
     let register = c.args.register.now in
     let ps = parties_of register in
-    let north = number_few ps register.few Northern (code_text c.north.result) c.in-ok-north.north
-    (sym c.find-on.ensures ∙ c.in-ok-north.ensures.ok-part) in
-    let south = number_few ps register.few Southern (code_text c.south.result) c.in-ok-south.south
-    (sym c.find-on-2.ensures ∙ c.in-ok-south.ensures.ok-part) in
+    let north = number_few ps register.few Northern (code_text c.north.result) c.in_ok-north.north
+    (sym c.find_on.ensures ∙ c.in_ok-north.ensures.ok-part) in
+    let south = number_few ps register.few Southern (code_text c.south.result) c.in_ok-south.south
+    (sym c.find_on-2.ensures ∙ c.in_ok-south.ensures.ok-part) in
     let ns = ap (λ (e : Kwh). e.0) c.ns.ensures in
     let sn = ap (λ (e : Kwh). e.0) c.sn.ensures in
-    record { row = search rules; fit = row_fit c.in-ok-north.north c.in-ok-south.south c.ns.result c.sn.result c.period-2.result c.in-ok-side.side c.args.kind c.args.flag north south (omega arith) (omega arith) }
+    record { row = search rules; fit = row_fit c.in_ok-north.north c.in_ok-south.south c.ns.result c.sn.result c.period-2.result c.in_ok-side.side c.args.kind c.args.flag north south (omega arith) (omega arith) }

@@ -11,13 +11,13 @@ returns c =
     let reader = c.args.reader.now in
     let bytes = reader.text.now in
     let day = day_of c.args.register.now c.args.terms in
-    let x = said (option_map values_said) c.next-values.result in
-    let last = c.next-values.new.self in
-    let here = c.next-values.ensures.answer ∙ ap (λ (k : ℕ). said_next bytes k reader.line) c.requires.start ∙ ap (said_next bytes 0) c.requires.first in
-    let behind = header_behind day bytes c.filer-of.result last.at last.line x here c.filer-of.ensures in
+    let x = said (option_map values_said) c.next_values.result in
+    let last = c.next_values.new.self in
+    let here = c.next_values.ensures.answer ∙ ap (λ (k : ℕ). said_next bytes k reader.line) c.requires.start ∙ ap (said_next bytes 0) c.requires.first in
+    let behind = header_behind day bytes c.filer_of.result last.at last.line x here c.filer_of.ensures in
     record {
-      filer = c.filer-of.ensures ∙ filer_there day bytes x last.at last.line here;
+      filer = c.filer_of.ensures ∙ filer_there day bytes x last.at last.line here;
       place = behind.0;
       short = behind.1;
-      text = c.next-values.ensures.text;
+      text = c.next_values.ensures.text;
     }

@@ -21,19 +21,19 @@ returns c =
     let day = day_of c.args.register.now c.args.terms in
     let filer = code_text c.args.filer in
     let bytes = reader.text.now in
-    let x = said (option_map values_said) c.next-values.result in
+    let x = said (option_map values_said) c.next_values.result in
     let at = reader.at in
     let n = reader.line in
-    let last = c.next-values.new.self in
-    let here = c.next-values.ensures.answer in
+    let last = c.next_values.new.self in
+    let here = c.next_values.ensures.answer in
     let there = row_there day filer bytes at n x last.at last.line c.requires.more c.requires.short here in
     let into : Result FiledRow FileFault → List FiledRow × Result (Unit {0}) FileFault = λ q. noted rows used (row_into (space_of rows) n filed q) in
-    let is = c.line-row-row.ensures.row ∙ ap (λ (m : ℕ). row_from day filer m x) c.line-line.ensures in
-    let put = c.admit-row.ensures
-    ∙ ap (λ (m : ℕ). noted rows used (row_into (space_of rows) m filed c.line-row-row.result)) c.line-line.ensures ∙ ap into is in
+    let is = c.line_row-row.ensures.row ∙ ap (λ (m : ℕ). row_from day filer m x) c.line-line.ensures in
+    let put = c.admit_row.ensures
+    ∙ ap (λ (m : ℕ). noted rows used (row_into (space_of rows) m filed c.line_row-row.result)) c.line-line.ensures ∙ ap into is in
     record {
       rows = put ∙ ap into there;
-      place = followed day filer bytes at n rows c.admit-row.new.rows used (space_of rows) filed (line_values n (line_at bytes at)) x last.at last.line
-          c.admit-row.result (here ∙ said_there bytes at n c.requires.more c.requires.short) put;
-      text = c.next-values.ensures.text;
+      place = followed day filer bytes at n rows c.admit_row.new.rows used (space_of rows) filed (line_values n (line_at bytes at)) x last.at last.line
+          c.admit_row.result (here ∙ said_there bytes at n c.requires.more c.requires.short) put;
+      text = c.next_values.ensures.text;
     }

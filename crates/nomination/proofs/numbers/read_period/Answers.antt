@@ -4,7 +4,7 @@ use Rattle.nomination.proofs.numbers.read_period.Goals as goal
 
 pub overflow-cast-result : goal.overflow-cast-result
 overflow-cast-result c =
-    let small = number_small c.args.text.now c.in-ok-period.period (sym c.in-ok-period.ensures) in
+    let small = number_small c.args.text.now c.in_ok-period.period (sym c.in_ok-period.ensures) in
     let short : length c.args.text.now ≤ 2 = omega arith in
     let most = pow_most (length c.args.text.now) 2 short in
     search rules

@@ -8,4 +8,4 @@ returns c =
     let out = c.args.out.now in
     let at = c.args.at in
     let text = c.args.text.now in
-    record { next = refl; written = put_mid-paste at ((at + length text) - at) out c.copy-from-slice.new.self text (length text) c.copy-from-slice.ensures.after (omega arith) refl ∙ over_paste out at text }
+    record { next = refl; written = put_mid-paste at ((at + length text) - at) out c.copy_from_slice.new.self text (length text) c.copy_from_slice.ensures.after (omega arith) refl ∙ over_paste out at text }

@@ -4,14 +4,14 @@ use Rattle.nomination.proofs.Lengths.{plain_two, amount_eight, detail_long}
 use Rattle.nomination.proofs.Overlaying.{over_over}
 use Rattle.nomination.proofs.put_record.put_detail.Goals as goal
 
-pub put-amount-sn-requires : goal.put-amount-sn-requires
-put-amount-sn-requires c =
+pub put_amount-sn-requires : goal.put_amount-sn-requires
+put_amount-sn-requires c =
     let short = plain_two c.args.detail.period (omega arith) in
     let most = amount_eight c.args.detail.ns in
     record { small = omega arith; fits = omega arith }
 
-pub put-amount-requires : goal.put-amount-requires
-put-amount-requires c =
+pub put_amount-requires : goal.put_amount-requires
+put_amount-requires c =
     let short = plain_two c.args.detail.period (omega arith) in
     let first = amount_eight c.args.detail.ns in
     let most = amount_eight c.args.detail.sn in

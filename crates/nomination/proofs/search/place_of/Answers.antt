@@ -19,5 +19,5 @@ loop-place-preserved c =
 
 pub returns : goal.returns
 returns c =
-    let none = place_none c.args.mark c.args.text.now c.loop-place.at c.loop-place.invariant.1 c.in-default.ensures in
+    let none = place_none c.args.mark c.args.text.now c.loop-place.at c.loop-place.invariant.1 c.in_default.ensures in
     omega arith

@@ -19,8 +19,8 @@ overflow-add-out c =
 pub loop-i-preserved : goal.loop-i-preserved
 loop-i-preserved c =
     handed_more c.args.amount.0 c.args.sum.0 c.loop-i.left c.args.claims.now c.loop-i.out c.loop-i.i
-    c.divided-whole.result.0 c.odd-kwh-one.result c.loop-i-test.true (omega arith) c.divided-whole.ensures.whole
-    (c.odd-kwh-one.ensures ∙ ap (odd c.loop-i.left) c.divided-whole.ensures.rest)
+    c.divided-whole.result.0 c.odd_kwh-one.result c.loop-i-test.true (omega arith) c.divided-whole.ensures.whole
+    (c.odd_kwh-one.ensures ∙ ap (odd c.loop-i.left) c.divided-whole.ensures.rest)
     ∙ c.loop-i.invariant
 
 pub returns : goal.returns

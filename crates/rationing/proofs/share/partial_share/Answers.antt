@@ -3,12 +3,12 @@ use Rattle.rationing.proofs.Fractions.{common_some, exact_part}
 use Rattle.rationing.proofs.share.partial_share.Goals as goal
 
 pub nonzero-div-result : goal.nonzero-div-result
-nonzero-div-result c = common_some _ c.args.sum.0 _ (omega arith) c.common-divisor-common.ensures
+nonzero-div-result c = common_some _ c.args.sum.0 _ (omega arith) c.common_divisor-common.ensures
 
 pub nonzero-div-result-2 : goal.nonzero-div-result-2
-nonzero-div-result-2 c = common_some _ c.args.sum.0 _ (omega arith) c.common-divisor-common.ensures
+nonzero-div-result-2 c = common_some _ c.args.sum.0 _ (omega arith) c.common_divisor-common.ensures
 
 pub returns : goal.returns
 returns c =
-    exact_part (c.args.amount.0 * c.args.claim.0) c.args.sum.0 c.divided-whole.result.0 c.divided-whole.result.1 c.common-divisor-common.result
-    (omega arith) c.divided-whole.ensures.whole c.divided-whole.ensures.rest c.common-divisor-common.ensures
+    exact_part (c.args.amount.0 * c.args.claim.0) c.args.sum.0 c.divided-whole.result.0 c.divided-whole.result.1 c.common_divisor-common.result
+    (omega arith) c.divided-whole.ensures.whole c.divided-whole.ensures.rest c.common_divisor-common.ensures

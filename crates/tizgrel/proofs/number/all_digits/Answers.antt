@@ -5,12 +5,12 @@ use Rattle.std.specs.Char.{is_ascii_digit}
 use Rattle.std.specs.Str.{all_ascii_digits}
 use Rattle.tizgrel.proofs.number.all_digits.Goals as goal
 
-pub returns-then-not-is-ascii-digit : goal.returns-then-not-is-ascii-digit
-returns-then-not-is-ascii-digit c =
+pub returns-then-not-is_ascii_digit : goal.returns-then-not-is_ascii_digit
+returns-then-not-is_ascii_digit c =
     let bytes = c.args.bytes.now in
     let i = c.loop-b.b-index in
     let next = at_drop_more all_ascii_digits bytes i 0 c.loop-b-test.true in
-    let bad = c.if-not-is-ascii-digit.ensures.value in
+    let bad = c.if-not-is_ascii_digit.ensures.value in
     sym (sym c.loop-b.invariant ∙ next ∙ and_left (is_ascii_digit (get_or bytes i 0)) (all_ascii_digits (drop (i + 1) bytes)) (sym bad))
 
 pub loop-b-preserved : goal.loop-b-preserved
@@ -18,7 +18,7 @@ loop-b-preserved c =
     let bytes = c.args.bytes.now in
     let i = c.loop-b.b-index in
     let next = at_drop_more all_ascii_digits bytes i 0 c.loop-b-test.true in
-    let good = c.if-not-is-ascii-digit.ensures.value in
+    let good = c.if-not-is_ascii_digit.ensures.value in
     ap (λ (t : Bool). t && all_ascii_digits (drop (i + 1) bytes)) good ∙ sym next ∙ c.loop-b.invariant
 
 pub returns : goal.returns

@@ -22,9 +22,9 @@ past word some digits large = grind (arith, nat_tests)
 pub returns-in-Ok : goal.returns-in-Ok
 returns-in-Ok c =
     let word = c.args.word.now in
-    let same = ap all_ascii_digits c.as-bytes.ensures.value in
+    let same = ap all_ascii_digits c.as_bytes.ensures.value in
     let digits : all_ascii_digits word ≡ true = cc in
-    let some = some_byte word c.is-empty.result c.is-empty.ensures c.if-is-empty.false in
+    let some = some_byte word c.is_empty.result c.is_empty.ensures c.if-is_empty.false in
     let read = parse_digits own 64 word c.parse.result c.parse.ensures.value.0 digits in
     let number = OkIff-at_ok c.parse.result _ _ c.in-Ok.number read c.in-Ok.is in
     fits word c.in-Ok.number some digits number.0.1 number.1
@@ -32,8 +32,8 @@ returns-in-Ok c =
 pub returns-in-Err : goal.returns-in-Err
 returns-in-Err c =
     let word = c.args.word.now in
-    let same = ap all_ascii_digits c.as-bytes.ensures.value in
+    let same = ap all_ascii_digits c.as_bytes.ensures.value in
     let digits : all_ascii_digits word ≡ true = cc in
-    let some = some_byte word c.is-empty.result c.is-empty.ensures c.if-is-empty.false in
+    let some = some_byte word c.is_empty.result c.is_empty.ensures c.if-is_empty.false in
     let read = parse_digits own 64 word c.parse.result c.parse.ensures.value.0 digits in
     past word some digits (λ small. OkIff-at_err c.parse.result _ _ c.in-Err.field-0 read c.in-Err.is (some, small))

@@ -9,12 +9,12 @@ invariant-of-result c = (
   (
     c.if-south-gt-MOST-PARTIES.false,
     (
-      c.if-ns-ntc-gt-LARGEST-NTC.false,
+      c.if-ns_ntc-gt-LARGEST-NTC.false,
       (
-        c.if-sn-ntc-gt-LARGEST-NTC.false,
+        c.if-sn_ntc-gt-LARGEST-NTC.false,
         (
-          within_each c.args.northern (sym c.if-not-all-within.ensures),
-          (within_each c.args.southern (sym c.if-not-all-within-2.ensures), tt),
+          within_each c.args.northern (sym c.if-not-all_within.ensures),
+          (within_each c.args.southern (sym c.if-not-all_within-2.ensures), tt),
         ),
       ),
     ),

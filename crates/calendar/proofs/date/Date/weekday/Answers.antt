@@ -9,6 +9,6 @@ pub returns : goal.returns
 returns c =
     let date = c.args.self in
     let day = calendar_day date in
-    let value = c.after-tuesday.ensures ∙ ap (onward Tuesday) c.days-since-april.ensures in
+    let value = c.after_tuesday.ensures ∙ ap (onward Tuesday) c.days_since_april.ensures in
     let real = has_all day (record { january = date.january; december = date.december; first = date.first; last = date.last }) in
     record { value = value; next = consecutive day (omega arith) real ∙ ap day_after (sym value) }

@@ -4,10 +4,10 @@ use Rattle.nomination.proofs.detail.Detail.read.Goals as goal
 
 pub invariant-of-result : goal.invariant-of-result
 invariant-of-result c =
-    let period = period_bounds c.args.parts.period.bytes.now c.in-ok-period.period
-    (sym c.read-period.ensures ∙ c.in-ok-period.ensures.ok-part) in
-    let ns = amount_bound c.args.parts.ns.bytes.now c.in-ok-ns.ns
-    (sym c.read-amount.ensures ∙ c.in-ok-ns.ensures.ok-part) in
-    let sn = amount_bound c.args.parts.sn.bytes.now c.in-ok-sn.sn
-    (sym c.read-amount-2.ensures ∙ c.in-ok-sn.ensures.ok-part) in
+    let period = period_bounds c.args.parts.period.bytes.now c.in_ok-period.period
+    (sym c.read_period.ensures ∙ c.in_ok-period.ensures.ok-part) in
+    let ns = amount_bound c.args.parts.ns.bytes.now c.in_ok-ns.ns
+    (sym c.read_amount.ensures ∙ c.in_ok-ns.ensures.ok-part) in
+    let sn = amount_bound c.args.parts.sn.bytes.now c.in_ok-sn.sn
+    (sym c.read_amount-2.ensures ∙ c.in_ok-sn.ensures.ok-part) in
     (period.0, (period.1, (ns, (sn, tt))))

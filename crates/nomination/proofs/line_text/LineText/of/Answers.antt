@@ -6,5 +6,5 @@ use Rattle.nomination.proofs.line_text.LineText.of.Goals as goal
 
 pub returns : goal.returns
 returns c =
-    ap (take c.put-line-used.result) c.put-line-used.ensures.written
-    ∙ take_over _ (line_text (values_said c.args.values)) c.put-line-used.result c.put-line-used.ensures.next
+    ap (take c.put_line-used.result) c.put_line-used.ensures.written
+    ∙ take_over _ (line_text (values_said c.args.values)) c.put_line-used.result c.put_line-used.ensures.next

@@ -10,7 +10,7 @@ pub returns-in-Heading : goal.returns-in-Heading
 returns-in-Heading c =
     let body : List ℕ = parted (header_fields (header_said c.in-Heading.header)) in
     let is = ap (λ (v : Values). line_text (values_said v)) c.in-Heading.is in
-    let both = over_over c.args.out.now 0 body c.put-header-end.result (10 ∷ []) (omega arith) (omega arith) in
+    let both = over_over c.args.out.now 0 body c.put_header-end.result (10 ∷ []) (omega arith) (omega arith) in
     let long = ap length is in
     record { next = omega arith; written = cc; fits = omega arith }
 
@@ -21,7 +21,7 @@ returns-in-Trading c =
     let end : List ℕ = 44 ∷ (flag_text c.in-Trading.flag ++ (10 ∷ [])) in
     let is = ap (λ (v : Values). line_text (values_said v)) c.in-Trading.is in
     let same = line_trading d c.in-Trading.flag in
-    let both = over_over c.args.out.now 0 body c.put-detail-end.result end (omega arith) (omega arith) in
+    let both = over_over c.args.out.now 0 body c.put_detail-end.result end (omega arith) (omega arith) in
     let long = ap length is in
     let whole = ap length same in
     let sum = length-append body end in
@@ -34,7 +34,7 @@ returns-in-Matching c =
     let d = detail_said c.in-Matching.detail in
     let body : List ℕ = parted (codes "D2" ∷ detail_fields d []) in
     let is = ap (λ (v : Values). line_text (values_said v)) c.in-Matching.is in
-    let both = over_over c.args.out.now 0 body c.put-detail-end-in-Matching.result (10 ∷ []) (omega arith) (omega arith) in
+    let both = over_over c.args.out.now 0 body c.put_detail-end-in-Matching.result (10 ∷ []) (omega arith) (omega arith) in
     let long = ap length is in
     let sum = length-append body (10 ∷ []) in
     let short = detail_short 50 c.in-Matching.detail in

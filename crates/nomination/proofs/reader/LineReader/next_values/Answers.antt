@@ -5,6 +5,6 @@ use Rattle.nomination.proofs.reader.LineReader.next_values.Goals as goal
 pub returns : goal.returns
 returns c =
     let self = c.args.self.now in
-    let read = c.read-next.ensures in
+    let read = c.read_next.ensures in
     let said = ap (said_from self.line) c.next.ensures.answer ∙ said_next_lem self.text.now self.at self.line in
     record { answer = cc; text = c.next.ensures.text }

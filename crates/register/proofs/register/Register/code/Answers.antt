@@ -9,8 +9,8 @@ use Rattle.register.proofs.register.Register.code.Goals as goal
 pub returns : goal.returns
 returns c =
     let self = c.args.self.now in
-    let stands = sym (c.in-ok-party.ensures ∙ ap (λ (ps : List PartyView). slice_get ps c.args.number) c.roll.ensures) in
+    let stands = sym (c.in_ok-party.ensures ∙ ap (λ (ps : List PartyView). slice_get ps c.args.number) c.roll.ensures) in
     record {
       answer = search rules;
-      back = found_nth (parties_of self) self.apart c.args.side c.args.number (party_view c.in-ok-party.field-0) stands;
+      back = found_nth (parties_of self) self.apart c.args.side c.args.number (party_view c.in_ok-party.field-0) stands;
     }
