@@ -28,7 +28,7 @@ pub fn ration_by<D: Dividing>(
     out: &mut [Kwh],
 ) -> Result<(), RationingRefusal>
     ensures answer { result ≡ answered (admits claims.now (length out.old)) }
-    ensures written { out.new ≡ (if admits claims.now (length out.old) then whole_or (divides rule.now) amount claims.now else out.old) }
+    ensures written { out.new ≡ (if admits claims.now (length out.old) then whole_or (D.divides rule.now) amount claims.now else out.old) }
 {
     let sum = admitted_sum(claims, out.len())?;
     if sum.0 <= amount.0 {

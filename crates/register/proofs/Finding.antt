@@ -2,7 +2,7 @@
 use Rattle.std.proofs.Common.{◌≡◌, ℕ, zero, suc, ◌+◌, ◌<◌, true, not, List, [], ◌∷◌, ◌++◌, length, get_or, Some, None, Option, sym, refl, ap, ◌∙◌, ⊎_elim, arith}
 use Rattle.std.proofs.lemmas.List.{get_or-map, length-map}
 use Rattle.std.proofs.lemmas.Option.{slice_get-get_or, slice_get_past}
-use Rattle.std.proofs.lemmas.Bool.{and_parts, and_from, cases_Bool, cases_lt, cond-true, cond-false, not_true, not_from_false}
+use Rattle.std.proofs.lemmas.Bool.{and_parts, and_from, cases_Bool, cases_lt, cond-true, cond-false, not-true, not_from_false}
 use Rattle.std.proofs.lemmas.Bool.Decides.{nat_tests}
 use Rattle.std.specs.Option.{option_map, option_or}
 use Rattle.std.specs.List.{list_all, slice_get}
@@ -38,7 +38,7 @@ pub none_from_new : (n : ℕ) (text : List ℕ) (cs : List (List ℕ)) → New t
 none_from_new n text [] e = refl
 none_from_new n text (c ∷ cs) e =
     let both = and_parts (not (same_code text c)) (list_all (λ d. not (same_code text d)) cs) e in
-    cond-false (same_code c text) (Some n) (place_from (n + 1) text cs) (same_flip c text ∙ not_true (same_code text c) both.0)
+    cond-false (same_code c text) (Some n) (place_from (n + 1) text cs) (same_flip c text ∙ not-true (same_code text c) both.0)
     ∙ none_from_new (n + 1) text cs both.1
 
 module _ (bs : List (List ℕ)) where
@@ -66,7 +66,7 @@ place_found n zero (c ∷ cs) e h =
 place_found n (suc k) (c ∷ cs) e h =
     let both = and_parts (list_all (λ d. not (same_code c d)) cs) (is-distinct same_code cs) e in
     let within : k < length cs = omega arith in
-    let apart = not_true (same_code c (get_or cs k [])) (pass_get_d (λ d. not (same_code c d)) cs k [] within both.0) in
+    let apart = not-true (same_code c (get_or cs k [])) (pass_get_d (λ d. not (same_code c d)) cs k [] within both.0) in
     let m : (n + 1) + k ≡ n + suc k = omega arith in
     cond-false (same_code c (get_or cs k [])) (Some n) (place_from (n + 1) (get_or cs k []) cs) apart
     ∙ place_found (n + 1) k cs both.1 within ∙ ap (λ (x : ℕ). Some x) m

@@ -4,14 +4,14 @@ use Rattle.nomination.proofs.Fielding.{comma_there, fields_step, field_here, fie
 use Rattle.nomination.proofs.Marking.{place_within}
 use Rattle.nomination.proofs.fields.field.Goals as goal
 
-pub overflow-add-from : goal.overflow-add-from
-overflow-add-from c = let there = place_within 44 c.args.line.now c.loop-passed.from (omega arith) in search rules
+pub overflow_add-from : goal.overflow_add-from
+overflow_add-from c = let there = place_within 44 c.args.line.now c.loop-passed.from (omega arith) in search rules
 
 pub loop-passed-preserved : goal.loop-passed-preserved
 loop-passed-preserved c =
     let line = c.args.line.now in
     let from = c.loop-passed.from in
-    let j = c.loop-passed.-passed in
+    let j = c.loop-passed._passed in
     let here = c.loop-passed.invariant.1 in
     let comma = comma_there line from (omega arith) j here (omega arith) in
     let step = fields_step line from (omega arith) j here (omega arith) in
@@ -20,13 +20,13 @@ loop-passed-preserved c =
     let there = place_within 44 line from (omega arith) in
     (omega arith, cc, omega arith)
 
-pub slice-bounds-result-end : goal.slice-bounds-result-end
-slice-bounds-result-end c = let there = place_within 44 c.args.line.now c.loop-passed.from (omega arith) in omega arith
+pub slice_bounds-result-end : goal.slice_bounds-result-end
+slice_bounds-result-end c = let there = place_within 44 c.args.line.now c.loop-passed.from (omega arith) in omega arith
 
 pub returns : goal.returns
 returns c =
     let line = c.args.line.now in
-    let j = c.loop-passed.-passed in
+    let j = c.loop-passed._passed in
     let all : j ≡ c.args.index = omega arith in
     let here = field_here line c.loop-passed.from (omega arith) j c.loop-passed.invariant.1 (omega arith) in
     cc

@@ -6,5 +6,5 @@ use Rattle.nomination.proofs.fields.field.Given as goal
 abbrev pub invariant-loop-passed : goal.invariant-loop-passed
 invariant-loop-passed l =
     (l.from ≤ length l.line)
-    × (drop l.-passed (fields_of l.line) ≡ fields_of (drop l.from l.line))
-    × (l.from ≡ start_of (fields_of l.line) l.-passed)
+    × (drop l._passed (fields_of l.line) ≡ fields_of (drop l.from l.line))
+    × (l.from ≡ start_of (fields_of l.line) l._passed)

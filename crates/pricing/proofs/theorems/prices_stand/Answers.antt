@@ -13,7 +13,7 @@ returns c =
     record {
       factor_range = factor_range;
       either_way = either_way;
-      worked-spills = λ t nominated. (refl, refl);
-      worked-charges = (refl, refl, refl);
-      worked-october = (refl, refl, refl);
+      worked_spills = λ t nominated. (refl, refl);
+      worked_charges = (refl, refl, refl);
+      worked_october = (refl, refl, refl);
     }

@@ -3,8 +3,8 @@ use Rattle.std.proofs.lemmas.Nat.{div_below, mul-lt}
 use Rattle.rationing.proofs.division.divided.Goals as goal
 
 -- the quotient is below 64 bits, since the amount is below the sum
-pub overflow-cast-result : goal.overflow-cast-result
-overflow-cast-result c =
+pub overflow_cast-result : goal.overflow_cast-result
+overflow_cast-result c =
     let amount = c.args.amount.0 in
     let claim = c.args.claim.0 in
     let all = c.args.sum.0 in

@@ -8,8 +8,8 @@ use Rattle.rationing.specs.Rounding.{share_below}
 use Rattle.rationing.proofs.register_rule.hand_out.Goals as goal
 
 -- a share of a smaller amount is below its claim, so one kWh more still fits
-pub overflow-add-out : goal.overflow-add-out
-overflow-add-out c =
+pub overflow_add-out : goal.overflow_add-out
+overflow_add-out c =
     let claim = (get_or c.args.claims.now c.loop-i.i (kwh 0)).0 in
     let below = share_below c.args.amount.0 claim c.args.sum.0 c.requires.short in
     let part = get_or-le-sum_by (λ x. x.0) c.args.claims.now c.loop-i.i (kwh 0) c.loop-i-test.true in

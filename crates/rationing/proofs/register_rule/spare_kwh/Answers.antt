@@ -8,8 +8,8 @@ use Rattle.rationing.specs.Handing.{downs_le}
 use Rattle.rationing.proofs.register_rule.spare_kwh.Goals as goal
 
 -- the shares rounded down of the claims so far, and of all, stay within the amount
-pub overflow-sub-left : goal.overflow-sub-left
-overflow-sub-left c =
+pub overflow_sub-left : goal.overflow_sub-left
+overflow_sub-left c =
     let claims = c.args.claims.now in
     let share = down c.args.amount.0 c.args.sum.0 in
     let more = sum_by_more share claims c.loop-claim.claim-index (kwh 0) c.loop-claim-test.true in
@@ -21,7 +21,7 @@ loop-claim-preserved c =
     let claims = c.args.claims.now in
     let share = down c.args.amount.0 c.args.sum.0 in
     let more = sum_by_more share claims c.loop-claim.claim-index (kwh 0) c.loop-claim-test.true in
-    let fits : c.divided-left.result.0 ≤ c.loop-claim.left = overflow-sub-left c in
+    let fits : c.divided-left.result.0 ≤ c.loop-claim.left = overflow_sub-left c in
     omega arith
 
 pub returns : goal.returns

@@ -15,13 +15,13 @@ part_up_to-part-requires c =
     let within = claimed_within c.args.claims.now c.loop-i.i c.loop-i-test.true in
     search rules
 
-pub overflow-add-claimed : goal.overflow-add-claimed
-overflow-add-claimed c =
+pub overflow_add-claimed : goal.overflow_add-claimed
+overflow_add-claimed c =
     let within = claimed_within c.args.claims.now c.loop-i.i c.loop-i-test.true in
     search rules
 
 -- what the division gives is the part up to and with this claim
-at_part : (c : goal.After-part-up-to-part) → c.part_up_to-part.result ≡ up_to c.args.amount.0 c.args.claims.now (c.loop-i.i + 1)
+at_part : (c : goal.After-part_up_to-part) → c.part_up_to-part.result ≡ up_to c.args.amount.0 c.args.claims.now (c.loop-i.i + 1)
 at_part c =
     let claims = c.args.claims.now in
     let more : c.loop-i.claimed + (get_or claims c.loop-i.i (kwh 0)).0 ≡ sum_kwh (take (c.loop-i.i + 1) claims) =
@@ -29,8 +29,8 @@ at_part c =
     c.part_up_to-part.ensures ∙ ap (λ (n : ℕ). c.args.amount.0 * n / c.args.sum.0) more
     ∙ ap (λ (n : ℕ). c.args.amount.0 * sum_kwh (take (c.loop-i.i + 1) claims) / n) c.requires.summed
 
-pub overflow-sub-out : goal.overflow-sub-out
-overflow-sub-out c =
+pub overflow_sub-out : goal.overflow_sub-out
+overflow_sub-out c =
     let rise = up_to_le c.args.amount.0 c.args.claims.now (omega arith) c.loop-i.i c.loop-i-test.true in
     omega (arith, at_part c)
 

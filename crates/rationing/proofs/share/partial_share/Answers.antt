@@ -2,11 +2,11 @@ use Rattle.std.proofs.Common.{◌*◌, arith}
 use Rattle.rationing.proofs.Fractions.{common_some, exact_part}
 use Rattle.rationing.proofs.share.partial_share.Goals as goal
 
-pub nonzero-div-result : goal.nonzero-div-result
-nonzero-div-result c = common_some _ c.args.sum.0 _ (omega arith) c.common_divisor-common.ensures
+pub nonzero_div-result : goal.nonzero_div-result
+nonzero_div-result c = common_some _ c.args.sum.0 _ (omega arith) c.common_divisor-common.ensures
 
-pub nonzero-div-result-2 : goal.nonzero-div-result-2
-nonzero-div-result-2 c = common_some _ c.args.sum.0 _ (omega arith) c.common_divisor-common.ensures
+pub nonzero_div-result-2 : goal.nonzero_div-result-2
+nonzero_div-result-2 c = common_some _ c.args.sum.0 _ (omega arith) c.common_divisor-common.ensures
 
 pub returns : goal.returns
 returns c =

@@ -3,8 +3,8 @@ use Rattle.allocation.proofs.Entitling.{within_each}
 use Rattle.allocation.proofs.terms.PeriodTerms.new.Goals as goal
 
 -- the limits, in the order in which the struct states them
-pub invariant-of-result : goal.invariant-of-result
-invariant-of-result c = (
+pub invariant_of-result : goal.invariant_of-result
+invariant_of-result c = (
   c.if-north-gt-MOST-PARTIES.false,
   (
     c.if-south-gt-MOST-PARTIES.false,

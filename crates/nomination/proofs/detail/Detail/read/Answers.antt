@@ -2,12 +2,12 @@ use Rattle.std.proofs.Common.{sym, ◌∙◌}
 use Rattle.nomination.proofs.Bounding.{period_bounds, amount_bound}
 use Rattle.nomination.proofs.detail.Detail.read.Goals as goal
 
-pub invariant-of-result : goal.invariant-of-result
-invariant-of-result c =
+pub invariant_of-result : goal.invariant_of-result
+invariant_of-result c =
     let period = period_bounds c.args.parts.period.bytes.now c.in_ok-period.period
-    (sym c.read_period.ensures ∙ c.in_ok-period.ensures.ok-part) in
+    (sym c.read_period.ensures ∙ c.in_ok-period.ensures.ok_part) in
     let ns = amount_bound c.args.parts.ns.bytes.now c.in_ok-ns.ns
-    (sym c.read_amount.ensures ∙ c.in_ok-ns.ensures.ok-part) in
+    (sym c.read_amount.ensures ∙ c.in_ok-ns.ensures.ok_part) in
     let sn = amount_bound c.args.parts.sn.bytes.now c.in_ok-sn.sn
-    (sym c.read_amount-2.ensures ∙ c.in_ok-sn.ensures.ok-part) in
+    (sym c.read_amount-2.ensures ∙ c.in_ok-sn.ensures.ok_part) in
     (period.0, (period.1, (ns, (sn, tt))))
