@@ -27,8 +27,8 @@ pub fn allocate<R: RationingRule>(
     rows: &[FiledRow],
     period: u8,
 ) -> Allocations
-    ensures shown { (d : Direction) (i j : ℕ) → shown_in result d i j ≡ allocated_in (awards rule.now) (period_in terms.now rows.now period) d i j }
-    ensures law { Lawful (awards rule.now) (period_in terms.now rows.now period) }
+    ensures shown { (d : Direction) (i j : ℕ) → shown_in result d i j ≡ allocated_in (R.awards rule.now) (period_in terms.now rows.now period) d i j }
+    ensures law { Lawful (R.awards rule.now) (period_in terms.now rows.now period) }
 {
     let figures = figures_of(rows, period, terms.north, terms.south);
     let ns = table_of(terms, &figures, Direction::NorthSouth);
@@ -54,7 +54,7 @@ fn allocate_way<R: RationingRule>(rule: &R, service: bool, own: &Table, facing: 
     requires sound { Sound (way_of own.now) }
     requires facingsound { Sound (way_of facing.now) }
     requires exchanged { sum_to own.now.senders (matched (way_of own.now)) ≡ sum_to facing.now.senders (matched (way_of facing.now)) }
-    ensures { (i j : ℕ) → i < own.now.senders → j < own.now.receivers → grid_at result i j ≡ way_allocated (awards rule.now) service (way_of own.now) (way_of facing.now) i j }
+    ensures { (i j : ℕ) → i < own.now.senders → j < own.now.receivers → grid_at result i j ≡ way_allocated (R.awards rule.now) service (way_of own.now) (way_of facing.now) i j }
 {
     let against = volume_of(facing);
     match treatment_of(service, volume_of(own), against, own.ntc) {

@@ -10,7 +10,7 @@ use rationing::RationingRule;
 pub fn share<R: RationingRule>(rule: &R, amount: Kwh, n: usize, claims: &[Kwh; 16]) -> [Kwh; 16]
     requires few { n ≤ 16 }
     requires small { sum_to n (figure_at claims.now) ≤ 2559999744 }
-    ensures { (k : ℕ) → k < n → figure_at result k ≡ award (awards rule.now) amount.0 n (figure_at claims.now) k }
+    ensures { (k : ℕ) → k < n → figure_at result k ≡ award (R.awards rule.now) amount.0 n (figure_at claims.now) k }
 {
     let mut out = [Kwh(0); 16];
     let _ = rule.ration(amount, &claims[0..n], &mut out[0..n]);

@@ -54,7 +54,7 @@ fn keep(trade: Kwh, matches: Kwh, first: Kwh) -> Kwh
 /// What each sender keeps, with the entitlements as claims on the net transfer capacity.
 fn kept_by_all<R: RationingRule>(rule: &R, table: &Table) -> [Kwh; 16]
     requires sound { Sound (way_of table.now) }
-    ensures { (k : ℕ) → k < table.now.senders → figure_at result k ≡ kept (awards rule.now) (way_of table.now) k }
+    ensures { (k : ℕ) → k < table.now.senders → figure_at result k ≡ kept (R.awards rule.now) (way_of table.now) k }
 {
     let first = share(rule, table.ntc, table.senders, &table.entitlement);
     let mut held = [Kwh(0); 16];
@@ -92,7 +92,7 @@ fn granted_by_all<R: RationingRule>(rule: &R, table: &Table, against: Kwh) -> [K
     requires sound { Sound (way_of table.now) }
     requires covered { sum_to table.now.senders (matched (way_of table.now)) ≤ against.0 }
     requires small { against.0 ≤ 2559999744 }
-    ensures { (k : ℕ) → k < table.now.senders → figure_at result k ≡ granted (awards rule.now) (way_of table.now) against.0 k }
+    ensures { (k : ℕ) → k < table.now.senders → figure_at result k ≡ granted (R.awards rule.now) (way_of table.now) against.0 k }
 {
     let held = kept_by_all(rule, table);
     let short = lacking_by_all(table, &held);
@@ -119,7 +119,7 @@ pub fn ration_table<R: RationingRule>(rule: &R, table: &Table, against: Kwh) -> 
     requires sound { Sound (way_of table.now) }
     requires covered { sum_to table.now.senders (matched (way_of table.now)) ≤ against.0 }
     requires small { against.0 ≤ 2559999744 }
-    ensures { (i j : ℕ) → i < table.now.senders → j < table.now.receivers → grid_at result i j ≡ rationed (awards rule.now) (way_of table.now) against.0 i j }
+    ensures { (i j : ℕ) → i < table.now.senders → j < table.now.receivers → grid_at result i j ≡ rationed (R.awards rule.now) (way_of table.now) against.0 i j }
 {
     let grants = granted_by_all(rule, table, against);
     let mut out = [[Kwh(0); 16]; 16];

@@ -6,12 +6,11 @@ use Rattle.std.proofs.lemmas.Bool.{and_parts, and_from, cases_Bool, cases_lt, co
 use Rattle.std.proofs.lemmas.Bool.Decides.{nat_tests}
 use Rattle.std.specs.Option.{option_map, option_or}
 use Rattle.std.specs.List.{list_all, slice_get}
-use Rattle.std.specs.Map.Invariant.{is-distinct}
 use Rattle.energy.specs.Codes.{same_code}
 use Rattle.energy.specs.declared.side.Side.{Side}
 use Rattle.energy.specs.declared.side.Side.TheVariants.{Northern, Southern}
 use Rattle.register.proofs.Passing.{pass_get_d, pass_parts}
-use Rattle.register.specs.Parties.{PartyView, Parties, new_party, on, codes_of, place_from, number_in, placed, found, codes_apart}
+use Rattle.register.specs.Parties.{is_distinct, PartyView, Parties, new_party, on, codes_of, place_from, number_in, placed, found, codes_apart}
 
 pub same_self : (c : List ℕ) → same_code c c ≡ true
 same_self c = grind (arith, nat_tests)
@@ -43,28 +42,28 @@ none_from_new n text (c ∷ cs) e =
 
 module _ (bs : List (List ℕ)) where
   -- no code of the second list stands in the first
-  pub new_across : (cs : List (List ℕ)) (k : ℕ) → is-distinct same_code (cs ++ bs) ≡ true → k < length bs → New (get_or bs k []) cs
+  pub new_across : (cs : List (List ℕ)) (k : ℕ) → is_distinct same_code (cs ++ bs) ≡ true → k < length bs → New (get_or bs k []) cs
   new_across [] k e h = refl
   new_across (a ∷ cs) k e h =
-      let both = and_parts (list_all (λ c. not (same_code a c)) (cs ++ bs)) (is-distinct same_code (cs ++ bs)) e in
+      let both = and_parts (list_all (λ c. not (same_code a c)) (cs ++ bs)) (is_distinct same_code (cs ++ bs)) e in
       let apart = pass_get_d (λ c. not (same_code a c)) bs k [] h (pass_parts (λ c. not (same_code a c)) cs bs both.0).1 in
       and_from (not (same_code (get_or bs k []) a)) (list_all (λ c. not (same_code (get_or bs k []) c)) cs)
       (ap not (same_flip (get_or bs k []) a) ∙ apart) (new_across cs k both.1 h)
 
-  pub apart_parts : (cs : List (List ℕ)) → is-distinct same_code (cs ++ bs) ≡ true → (is-distinct same_code cs ≡ true) × (is-distinct same_code bs ≡ true)
+  pub apart_parts : (cs : List (List ℕ)) → is_distinct same_code (cs ++ bs) ≡ true → (is_distinct same_code cs ≡ true) × (is_distinct same_code bs ≡ true)
   apart_parts [] e = (refl, e)
   apart_parts (a ∷ cs) e =
-      let both = and_parts (list_all (λ c. not (same_code a c)) (cs ++ bs)) (is-distinct same_code (cs ++ bs)) e in
+      let both = and_parts (list_all (λ c. not (same_code a c)) (cs ++ bs)) (is_distinct same_code (cs ++ bs)) e in
       let rest = apart_parts cs both.1 in
-      (and_from (list_all (λ c. not (same_code a c)) cs) (is-distinct same_code cs) (pass_parts (λ c. not (same_code a c)) cs bs both.0).0 rest.0, rest.1)
+      (and_from (list_all (λ c. not (same_code a c)) cs) (is_distinct same_code cs) (pass_parts (λ c. not (same_code a c)) cs bs both.0).0 rest.0, rest.1)
 
-pub place_found : (n k : ℕ) (cs : List (List ℕ)) → is-distinct same_code cs ≡ true → k < length cs → place_from n (get_or cs k []) cs ≡ Some (n + k)
+pub place_found : (n k : ℕ) (cs : List (List ℕ)) → is_distinct same_code cs ≡ true → k < length cs → place_from n (get_or cs k []) cs ≡ Some (n + k)
 place_found n k [] e h = absurd (omega arith)
 place_found n zero (c ∷ cs) e h =
     let m : n ≡ n + 0 = omega arith in
     cond-true (same_code c c) (Some n) (place_from (n + 1) c cs) (same_self c) ∙ ap (λ (x : ℕ). Some x) m
 place_found n (suc k) (c ∷ cs) e h =
-    let both = and_parts (list_all (λ d. not (same_code c d)) cs) (is-distinct same_code cs) e in
+    let both = and_parts (list_all (λ d. not (same_code c d)) cs) (is_distinct same_code cs) e in
     let within : k < length cs = omega arith in
     let apart = not-true (same_code c (get_or cs k [])) (pass_get_d (λ d. not (same_code c d)) cs k [] within both.0) in
     let m : (n + 1) + k ≡ n + suc k = omega arith in
@@ -79,7 +78,7 @@ pub codes_length : (qs : List PartyView) → length (codes_of qs) ≡ length qs
 codes_length qs = length-map qs (λ (p : PartyView). p.code)
 
 module _ (ps : Parties) (e : codes_apart ps ≡ true) where
-  apart : (s : Side) → is-distinct same_code (codes_of (on s ps)) ≡ true
+  apart : (s : Side) → is_distinct same_code (codes_of (on s ps)) ≡ true
   apart Northern = (apart_parts (codes_of ps.southern) (codes_of ps.northern) e).0
   apart Southern = (apart_parts (codes_of ps.southern) (codes_of ps.northern) e).1
 

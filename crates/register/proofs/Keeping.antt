@@ -4,7 +4,6 @@ use Rattle.std.proofs.lemmas.List.{append_assoc, append-nil, map_push, length-se
 use Rattle.std.proofs.lemmas.Bool.{and_parts, and_from, le-leb, leb-true, true≢false}
 use Rattle.std.specs.Option.{option_map, option_or}
 use Rattle.std.specs.List.{list_all}
-use Rattle.std.specs.Map.Invariant.{is-distinct}
 use Rattle.energy.specs.Codes.{same_code}
 use Rattle.energy.specs.declared.side.Side.{Side}
 use Rattle.energy.specs.declared.side.Side.TheVariants.{Northern, Southern}
@@ -12,17 +11,17 @@ use Rattle.energy.specs.declared.unit.Mw.{Mw}
 use Rattle.register.proofs.Finding.{New, new_from_none, same_flip}
 use Rattle.register.proofs.Passing.{pass_set, pass_append, pass_parts}
 use Rattle.register.specs.Limits.{mw_within}
-use Rattle.register.specs.Parties.{PartyView, Parties, new_party, on, changed, codes_of, number_in, placed, found, joined_by, entitled_at, sides_few, codes_apart, entitlements_within}
+use Rattle.register.specs.Parties.{is_distinct, PartyView, Parties, new_party, on, changed, codes_of, number_in, placed, found, joined_by, entitled_at, sides_few, codes_apart, entitlements_within}
 
 -- a new code can stand anywhere among codes that are apart
-apart_insert : (bs cs : List (List ℕ)) (text : List ℕ) → is-distinct same_code (cs ++ bs) ≡ true → New text (cs ++ bs) → is-distinct same_code (cs ++ (text ∷ bs)) ≡ true
-apart_insert bs [] text e new = and_from (list_all (λ c. not (same_code text c)) bs) (is-distinct same_code bs) new e
+apart_insert : (bs cs : List (List ℕ)) (text : List ℕ) → is_distinct same_code (cs ++ bs) ≡ true → New text (cs ++ bs) → is_distinct same_code (cs ++ (text ∷ bs)) ≡ true
+apart_insert bs [] text e new = and_from (list_all (λ c. not (same_code text c)) bs) (is_distinct same_code bs) new e
 apart_insert bs (a ∷ cs) text e new =
-    let old = and_parts (list_all (λ c. not (same_code a c)) (cs ++ bs)) (is-distinct same_code (cs ++ bs)) e in
+    let old = and_parts (list_all (λ c. not (same_code a c)) (cs ++ bs)) (is_distinct same_code (cs ++ bs)) e in
     let fresh = and_parts (not (same_code text a)) (list_all (λ c. not (same_code text c)) (cs ++ bs)) new in
     let parts = pass_parts (λ c. not (same_code a c)) cs bs old.0 in
     let here = ap not (same_flip a text) ∙ fresh.0 in
-    and_from (list_all (λ c. not (same_code a c)) (cs ++ (text ∷ bs))) (is-distinct same_code (cs ++ (text ∷ bs)))
+    and_from (list_all (λ c. not (same_code a c)) (cs ++ (text ∷ bs))) (is_distinct same_code (cs ++ (text ∷ bs)))
     (pass_append (λ c. not (same_code a c)) cs (text ∷ bs) parts.0 (and_from (not (same_code a text)) (list_all (λ c. not (same_code a c)) bs) here parts.1))
     (apart_insert bs cs text old.1 fresh.1)
 
@@ -83,14 +82,14 @@ module _ (ps : Parties) (kept : Kept ps) where
       let ns = codes_of ps.northern in
       let ss = codes_of ps.southern in
       let same = ap (λ (cs : List (List ℕ)). cs ++ ss) (codes_push ps.northern text) ∙ append_assoc ns (text ∷ []) ss in
-      ap (is-distinct same_code) same ∙ apart_insert ss ns text kept.apart (new_on_both text ps e)
+      ap (is_distinct same_code) same ∙ apart_insert ss ns text kept.apart (new_on_both text ps e)
   apart_added Southern text e =
       let ns = codes_of ps.northern in
       let ss = codes_of ps.southern in
       let same = ap (λ (cs : List (List ℕ)). ns ++ cs) (codes_push ps.southern text) ∙ sym (append_assoc ns ss (text ∷ [])) in
       let whole = append-nil (ns ++ ss) in
-      ap (is-distinct same_code) same
-      ∙ apart_insert [] (ns ++ ss) text (ap (is-distinct same_code) whole ∙ kept.apart)
+      ap (is_distinct same_code) same
+      ∙ apart_insert [] (ns ++ ss) text (ap (is_distinct same_code) whole ∙ kept.apart)
       (ap (list_all (λ c. not (same_code text c))) whole ∙ new_on_both text ps e)
 
   pub added_keeps : (s : Side) (text : List ℕ) → found text ps ≡ None → length (on s ps) < 16 → Kept (changed s (λ _. joined_by text (on s ps)) ps)
@@ -102,9 +101,9 @@ module _ (ps : Parties) (kept : Kept ps) where
 
   apart_entitled : (s : Side) (k : ℕ) (m : Mw) → codes_apart (changed s (λ _. entitled_at k m (on s ps)) ps) ≡ true
   apart_entitled Northern k m =
-      ap (λ (cs : List (List ℕ)). is-distinct same_code (cs ++ codes_of ps.southern)) (codes_entitled ps.northern k m) ∙ kept.apart
+      ap (λ (cs : List (List ℕ)). is_distinct same_code (cs ++ codes_of ps.southern)) (codes_entitled ps.northern k m) ∙ kept.apart
   apart_entitled Southern k m =
-      ap (λ (cs : List (List ℕ)). is-distinct same_code (codes_of ps.northern ++ cs)) (codes_entitled ps.southern k m) ∙ kept.apart
+      ap (λ (cs : List (List ℕ)). is_distinct same_code (codes_of ps.northern ++ cs)) (codes_entitled ps.southern k m) ∙ kept.apart
 
   pub entitled_keeps : (s : Side) (k : ℕ) (m : Mw) → mw_within m ≡ true → Kept (changed s (λ _. entitled_at k m (on s ps)) ps)
   entitled_keeps s k m h =

@@ -1,8 +1,7 @@
 -- The parties of both sides, in the order in which they were registered.
-use Rattle.std.specs.Prelude.{ℕ, ◌+◌, Bool, cond, ◌&&◌, List, [], ◌∷◌, ◌++◌, map, length, Some, None, Option, nat_le, nat_lt, slice_index_or, slice_set}
+use Rattle.std.specs.Prelude.{ℕ, ◌+◌, Bool, true, cond, not, ◌&&◌, List, [], ◌∷◌, ◌++◌, map, length, Some, None, Option, nat_le, nat_lt, slice_index_or, slice_set}
 use Rattle.std.specs.Option.{option_map, option_or}
 use Rattle.std.specs.List.{list_all}
-use Rattle.std.specs.Map.Invariant.{is-distinct}
 use Rattle.energy.specs.Codes.{same_code}
 use Rattle.energy.specs.Units.{mw}
 use Rattle.energy.specs.declared.side.Side.{Side}
@@ -76,9 +75,14 @@ entitled_at k m ps = slice_set ps k (record { code = (slice_index_or ps k (new_p
 abbrev pub sides_few : Parties → Bool
 sides_few ps = nat_le (length ps.northern) most_parties && nat_le (length ps.southern) most_parties
 
+-- No two members of a list are the same by a test.
+abbrev pub is_distinct : {X : Type 0} → (X → X → Bool) → List X → Bool
+is_distinct same [] = true
+is_distinct same (x ∷ xs) = list_all (λ y. not (same x y)) xs && is_distinct same xs
+
 -- No code stands twice on both sides together.
 abbrev pub codes_apart : Parties → Bool
-codes_apart ps = is-distinct same_code (codes_of ps.northern ++ codes_of ps.southern)
+codes_apart ps = is_distinct same_code (codes_of ps.northern ++ codes_of ps.southern)
 
 -- No entitlement is above its limit.
 abbrev pub entitlements_within : Parties → Bool

@@ -11,6 +11,7 @@ use command::{Command, read_command};
 use complaint::Complaint;
 use ration::print_ration;
 use std::env;
+use std::process::ExitCode;
 
 const USAGE: &str = "usage: tizgrel ration RULE AMOUNT CLAIM...
        tizgrel --help
@@ -24,13 +25,15 @@ It prints the amount, the sum of the claims, and for each claim its exact share 
 its award. A rule answers at most 16 claims that sum to at most 2559999744 kWh;
 others are refused with 20.";
 
-fn main(rt: HostRuntime) -> Result<(), Complaint> {
-    let done = run(&rt);
-    if let Err(complaint) = &done {
-        // Where standard error is closed too, the status still tells.
-        let _ = eprintln!(rt; "tizgrel: {complaint}");
+fn main(rt: HostRuntime) -> ExitCode {
+    match run(&rt) {
+        Ok(()) => ExitCode::SUCCESS,
+        Err(complaint) => {
+            // Where standard error is closed too, the status still tells.
+            let _ = eprintln!(rt; "tizgrel: {complaint}");
+            ExitCode::FAILURE
+        }
     }
-    done
 }
 
 fn run(rt: &HostRuntime) -> Result<(), Complaint> {

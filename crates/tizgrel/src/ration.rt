@@ -28,7 +28,7 @@ fn share_out<R: RationingRule>(
     out: &mut [Kwh],
 ) -> Result<Kwh, RationingRefusal>
     ensures answer { result ≡ admission claims.now (length out.old) }
-    ensures written { out.new ≡ (if admits claims.now (length out.old) then awards rule.now amount claims.now else out.old) }
+    ensures written { out.new ≡ (if admits claims.now (length out.old) then R.awards rule.now amount claims.now else out.old) }
 {
     rule.ration(amount, claims, out)?;
     let Some(sum) = total(claims) else {

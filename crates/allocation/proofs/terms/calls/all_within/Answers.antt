@@ -5,8 +5,8 @@ use Rattle.energy.specs.Units.{mw}
 use Rattle.allocation.specs.Terms.{all_within}
 use Rattle.allocation.proofs.terms.calls.all_within.Goals as goal
 
-pub returns-then-entitlement-gt-LARGEST-ENTITLEMENT : goal.returns-then-entitlement-gt-LARGEST-ENTITLEMENT
-returns-then-entitlement-gt-LARGEST-ENTITLEMENT c =
+pub returns-then-entitlement-gt-LARGEST_ENTITLEMENT : goal.returns-then-entitlement-gt-LARGEST_ENTITLEMENT
+returns-then-entitlement-gt-LARGEST_ENTITLEMENT c =
     let ms = c.args.entitlements.now in
     let i = c.loop-entitlement.entitlement-index in
     let next = at_drop_more all_within ms i (mw 0) (omega arith) in
