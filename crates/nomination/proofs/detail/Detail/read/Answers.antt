@@ -10,4 +10,4 @@ invariant_of-result c =
     (sym c.read_amount.ensures ∙ c.in_ok-ns.ensures.ok_part) in
     let sn = amount_bound c.args.parts.sn.bytes.now c.in_ok-sn.sn
     (sym c.read_amount-2.ensures ∙ c.in_ok-sn.ensures.ok_part) in
-    (period.0, (period.1, (ns, (sn, tt))))
+    record { first = period.0; last = period.1; ns_small = ns; sn_small = sn }
