@@ -1,13 +1,11 @@
 -- One line of a file, from the reader to the book.
-use Rattle.std.proofs.Common.{◌≡◌, ℕ, ◌+◌, ◌<◌, ◌≤◌, Bool, true, false, cond, ◌&&◌, ltb, leb, List, length, Some, None, Ok, Err, Option, Result, sym, refl, ap, ◌∙◌, arith}
-use Rattle.std.proofs.lemmas.Bool.{le-ltb, lt-leb, cond-false, and_left}
+use Rattle.std.proofs.Common.{◌≡◌, ℕ, ◌<◌, ◌≤◌, ltb, leb, List, length, Ok, Err, Option, Result, refl, ap, ◌∙◌, arith}
+use Rattle.std.proofs.lemmas.Bool.{le-ltb, lt-leb, and_left}
 use Rattle.book.specs.declared.filed_row.FiledRow.{FiledRow}
-use Rattle.nomination.specs.Lines.{Line}
-use Rattle.nomination.specs.Marks.{place_of}
 use Rattle.nomination.specs.Reading.{line_at, stepped, line_values, said_next}
 use Rattle.nomination.specs.Values.{RecordValues}
 use Rattle.nomination.specs.declared.fault.TextFault.{TextFault}
-use Rattle.intake.specs.Filing.{FileDay, carried, row_said, row_of, row_into, line_into}
+use Rattle.intake.specs.Filing.{FileDay, carried, row_said, row_of, row_into}
 use Rattle.intake.specs.Noting.{noted, row_from, Followed}
 use Rattle.intake.specs.declared.fault.FileFault.{FileFault}
 use Rattle.intake.specs.declared.fault.FileFault.TheVariants as file

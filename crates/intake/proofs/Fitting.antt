@@ -1,5 +1,5 @@
 -- The row of registered parties stands for an entry.
-use Rattle.std.proofs.Common.{◌≡◌, ℕ, ◌+◌, ◌<◌, ◌≤◌, true, false, cond, leb, List, [], ◌∷◌, length, Some, None, sym, ◌∙◌, inl, inr, arith}
+use Rattle.std.proofs.Common.{◌≡◌, ℕ, ◌+◌, ◌<◌, ◌≤◌, true, leb, List, [], ◌∷◌, length, Some, sym, ◌∙◌, inl, inr, arith}
 use Rattle.std.proofs.lemmas.Bool.{cases_Bool, and_parts, leb-true, cond-true, cond-false}
 use Rattle.std.proofs.lemmas.Bool.Decides.{nat_tests}
 use Rattle.book.specs.FiledRows.{filed_fit}
@@ -10,7 +10,7 @@ use Rattle.energy.specs.Codes.{same_code}
 use Rattle.energy.specs.declared.side.Side.{Side}
 use Rattle.energy.specs.declared.side.Side.TheVariants.{Northern, Southern}
 use Rattle.register.proofs.Finding.{codes_length}
-use Rattle.register.specs.Parties.{PartyView, Parties, codes_of, place_from, number_in, on, sides_few}
+use Rattle.register.specs.Parties.{Parties, codes_of, place_from, number_in, on, sides_few}
 
 place_below : (n k : ℕ) (text : List ℕ) (cs : List (List ℕ)) → place_from n text cs ≡ Some k → k < n + length cs
 place_below n k text [] e = absurd (let z : ◌≡◌ {A = ℕ} 0 1 = cc in omega arith)

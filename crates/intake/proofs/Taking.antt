@@ -9,10 +9,8 @@ use Rattle.nomination.proofs.Lining.{lines_none, lines_more}
 use Rattle.nomination.specs.Lines.{Line, lines_of}
 use Rattle.nomination.specs.Marks.{place_of}
 use Rattle.nomination.specs.Reading.{line_at}
-use Rattle.nomination.specs.Values.{onward}
-use Rattle.intake.specs.Filing.{FileDay, carried, key_of, admitted, row_of, row_into, line_into, take_lines}
+use Rattle.intake.specs.Filing.{FileDay, carried, key_of, row_of, row_into, line_into, take_lines}
 use Rattle.intake.specs.Noting.{noted}
-use Rattle.intake.specs.declared.fault.BookFault.{BookFault}
 use Rattle.intake.specs.declared.fault.BookFault.TheVariants.{KnownKey, BookFull}
 use Rattle.intake.specs.declared.fault.FileFault.{FileFault}
 use Rattle.intake.specs.declared.fault.FileFault.TheVariants as file

@@ -1,5 +1,5 @@
 -- The questions that a nomination file is asked.
-use Rattle.std.specs.Prelude.{ℕ, ◌+◌, ◌-◌, Bool, false, cond, List, [], ◌∷◌, ◌++◌, length, drop, is_some, Some, None, Ok, Err, Option, Result, ◌==◌, nat_le, nat_lt, slice_index_or}
+use Rattle.std.specs.Prelude.{ℕ, ◌+◌, false, cond, List, [], ◌∷◌, ◌++◌, length, drop, is_some, Some, None, Ok, Err, Option, Result, ◌==◌, nat_le, nat_lt, slice_index_or}
 use Rattle.book.specs.Books.{place_under}
 use Rattle.book.specs.FiledRows.{filed_fit, filed_under}
 use Rattle.book.specs.declared.filed_row.FiledKey.{FiledKey}
@@ -14,7 +14,6 @@ use Rattle.energy.specs.declared.side.Side.TheVariants.{Northern, Southern}
 use Rattle.nomination.specs.Lines.{Line, lines_of}
 use Rattle.nomination.specs.Reading.{line_values}
 use Rattle.nomination.specs.Values.{HeaderValues, DetailValues, RecordValues, heading, trading, matching, onward}
-use Rattle.nomination.specs.declared.fault.TextFault.{TextFault}
 use Rattle.nomination.specs.declared.fault.TextFault.TheVariants as text
 use Rattle.register.specs.Parties.{Parties, number_in, found}
 use Rattle.intake.specs.declared.fault.BookFault.{BookFault}

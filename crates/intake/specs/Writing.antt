@@ -1,5 +1,5 @@
 -- A party's entries as a nomination file.
-use Rattle.std.specs.Prelude.{ℕ, Bool, false, cond, ◌&&◌, List, [], ◌∷◌, ◌++◌, length, Some, None, Ok, Err, filter, Option, Result, ◌==◌, nat_le}
+use Rattle.std.specs.Prelude.{ℕ, Bool, false, cond, ◌&&◌, List, [], ◌++◌, length, Some, None, Ok, Err, filter, Option, Result, ◌==◌, nat_le}
 use Rattle.std.specs.List.{flat_map, slice_get}
 use Rattle.book.specs.FiledRows.{filed_fit, same_side}
 use Rattle.book.specs.declared.filed_row.FiledKind.{FiledKind}

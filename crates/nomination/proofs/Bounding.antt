@@ -1,6 +1,6 @@
 -- How large the values are that fields can write.
-use Rattle.std.proofs.Common.{◌≡◌, ℕ, ◌+◌, ◌-◌, ◌*◌, ◌^◌, ◌<◌, ◌≤◌, Bool, true, false, cond, not, ◌&&◌, ◌||◌, eqb, ltb, leb, List, [], ◌∷◌, length, get_or, take, drop, Some, None, Option, sym, refl, ap, ◌∙◌, inl, inr, arith, length-drop, length-take}
-use Rattle.std.proofs.lemmas.Bool.{cases_Bool, and_parts, or_parts, leb-true, eqb-true, eqb-false, ltb-false, cond-true, cond-false}
+use Rattle.std.proofs.Common.{◌≡◌, ℕ, ◌+◌, ◌-◌, ◌*◌, ◌^◌, ◌<◌, ◌≤◌, false, not, ◌&&◌, ◌||◌, eqb, ltb, leb, List, [], ◌∷◌, length, get_or, take, drop, Some, None, Option, refl, ap, arith, length-drop, length-take}
+use Rattle.std.proofs.lemmas.Bool.{and_parts, or_parts, leb-true, eqb-true, eqb-false, ltb-false}
 use Rattle.std.specs.Option.{option_map}
 use Rattle.energy.specs.Units.{kwh}
 use Rattle.energy.specs.declared.unit.Kwh.{Kwh}

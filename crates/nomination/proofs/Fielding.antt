@@ -1,11 +1,11 @@
 -- The fields of a line, from one comma to the next.
-use Rattle.std.proofs.Common.{◌≡◌, ℕ, zero, suc, ◌+◌, ◌-◌, ◌<◌, ◌≤◌, Bool, true, false, cond, not, eqb, ltb, List, [], ◌∷◌, length, get_or, take, drop, sym, refl, ap, ◌∙◌, inl, inr, add-one, one-add, arith, length-drop, length-take}
+use Rattle.std.proofs.Common.{◌≡◌, ℕ, zero, suc, ◌+◌, ◌-◌, ◌<◌, ◌≤◌, cond, not, eqb, ltb, List, [], ◌∷◌, length, get_or, take, drop, sym, refl, ap, ◌∙◌, inl, inr, add-one, one-add, arith, length-drop, length-take}
 use Prim.Native.Nat.compare
 use Rattle.std.proofs.lemmas.List.{drop-drop, at_drop_more}
 use Rattle.std.proofs.lemmas.Bool.{cases_Bool, cases_lt, lt-ltb, le-ltb, cond-true}
 use Rattle.std.proofs.lemmas.Bool.Decides.{nat_tests}
 use Rattle.std.specs.List.{prefix_len}
-use Rattle.nomination.specs.Lines.{fields_of, wider}
+use Rattle.nomination.specs.Lines.{fields_of}
 use Rattle.nomination.specs.Marks.{place_of}
 use Rattle.nomination.specs.Parts.{start_of}
 use Rattle.nomination.proofs.Marking.{place_within}

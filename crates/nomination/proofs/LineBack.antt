@@ -1,22 +1,21 @@
 -- A written line is read as a record that says the same.
-use Rattle.std.proofs.Common.{◌≡◌, ℕ, ◌+◌, ◌-◌, ◌<◌, ◌≤◌, Bool, true, false, cond, not, ◌&&◌, eqb, ltb, leb, List, [], ◌∷◌, ◌++◌, length, take, drop, is_some, Some, None, Ok, Err, codes, Option, Result, sym, refl, ap, ◌∙◌, subst, append_assoc, arith, length-append}
+use Rattle.std.proofs.Common.{◌≡◌, ℕ, ◌+◌, ◌-◌, ◌<◌, ◌≤◌, Bool, true, false, cond, not, eqb, leb, List, [], ◌∷◌, ◌++◌, length, drop, is_some, Some, None, Ok, codes, Option, Result, sym, refl, ap, ◌∙◌, subst, append_assoc, arith, length-append}
 use lib.Seq.{take-append_seam}
 use Rattle.std.proofs.lemmas.Bool.{and_parts, and_from, eq-eqb, ne_eqb, lt-ltb, le-ltb, lt-leb, leb-true}
 use Rattle.std.proofs.lemmas.Bool.Decides.{nat_tests}
 use Rattle.nomination.specs.declared.fault.TextFault.{TextFault}
 use Rattle.std.specs.List.{prefix_len}
-use Rattle.nomination.specs.Lines.{Line, lines_of, fields_of}
+use Rattle.nomination.specs.Lines.{Line, lines_of}
 use Rattle.nomination.specs.Marks.{place_of}
-use Rattle.nomination.specs.Reading.{line_at, record_of, stepped, next_of, line_values}
+use Rattle.nomination.specs.Reading.{line_at, record_of, stepped, line_values}
 use Rattle.nomination.specs.Records.{RecordText, header, trade, matched, header_text, detail_text, record_in}
 use Rattle.nomination.specs.Parts.{part_of}
 use Rattle.nomination.specs.Texts.{plain_text, three_text, amount_text, date_text, flag_text, record_fields, header_fields, detail_fields, parted, line_text}
-use Rattle.nomination.specs.Values.{RecordValues, heading, trading, matching, onward, record_read}
+use Rattle.nomination.specs.Values.{RecordValues, onward, record_read}
 use Rattle.nomination.specs.ValuesHeld.{header_said, detail_said, values_said}
 use Rattle.nomination.specs.WayBack.{OnLine, ReadsBack}
 use Rattle.nomination.specs.Writing.{over, placed}
 use Rattle.nomination.specs.declared.detail.Detail.{Detail}
-use Rattle.nomination.specs.declared.header.Header.{Header}
 use Rattle.nomination.specs.declared.values.Values.{Values}
 use Rattle.nomination.specs.declared.values.Values.TheVariants.{Heading, Trading, Matching}
 use Rattle.energy.specs.PartyCodes.{code_text}

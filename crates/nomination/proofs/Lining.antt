@@ -1,11 +1,11 @@
 -- The lines of a text, from one line end to the next.
-use Rattle.std.proofs.Common.{◌≡◌, ℕ, suc, ◌+◌, ◌-◌, ◌<◌, ◌≤◌, Bool, true, false, cond, not, eqb, ltb, List, [], ◌∷◌, length, get_or, take, drop, sym, refl, ap, ◌∙◌, inl, inr, add-one, one-add, arith, length-drop}
+use Rattle.std.proofs.Common.{◌≡◌, ℕ, suc, ◌+◌, ◌-◌, ◌<◌, not, eqb, ltb, List, [], ◌∷◌, length, take, drop, refl, inl, inr, add-one, one-add, arith, length-drop}
 use Prim.Native.Nat.compare
-use Rattle.std.proofs.lemmas.List.{drop-drop, at_drop_more, at_drop_all}
+use Rattle.std.proofs.lemmas.List.{drop-drop}
 use Rattle.std.proofs.lemmas.Bool.{cases_Bool, lt-ltb}
 use Rattle.std.proofs.lemmas.Bool.Decides.{nat_tests}
 use Rattle.std.specs.List.{prefix_len}
-use Rattle.nomination.specs.Lines.{Line, lines_of, longer}
+use Rattle.nomination.specs.Lines.{Line, lines_of}
 use Rattle.nomination.specs.Marks.{place_of}
 use Rattle.nomination.specs.Reading.{line_at}
 

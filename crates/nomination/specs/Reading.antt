@@ -1,5 +1,5 @@
 -- A text, read line by line.
-use Rattle.std.specs.Prelude.{ℕ, ◌+◌, ◌-◌, Bool, cond, ◌&&◌, List, length, take, drop, Some, None, Ok, Err, Option, Result, nat_le, nat_lt}
+use Rattle.std.specs.Prelude.{ℕ, ◌+◌, ◌-◌, cond, ◌&&◌, List, length, take, drop, Some, None, Ok, Err, Option, Result, nat_le, nat_lt}
 use Rattle.nomination.specs.Lines.{Line}
 use Rattle.nomination.specs.Marks.{place_of}
 use Rattle.nomination.specs.Records.{RecordText, record_in}

@@ -1,5 +1,5 @@
 -- What comes from rounding down, with at most one kWh on top, is rounded down or up.
-use Rattle.std.specs.Prelude.{ℕ, ◌+◌, ◌-◌, ◌*◌, ◌/◌, ◌%◌, ◌<◌, ◌≤◌, ◌⊎◌}
+use Rattle.std.specs.Prelude.{ℕ, ◌+◌, ◌-◌, ◌*◌, ◌/◌, ◌%◌, ◌<◌, ◌≤◌}
 use Rattle.std.proofs.Common.{inl, inr, ⊎_elim, sym, add-mul, le_of_lt, mul_comm, mul-le-mul_right, mul-le-mul_left, mul-lt-mul_of_pos_right, div-le_self, arith}
 use Rattle.std.proofs.lemmas.Nat.{div_below}
 use Rattle.std.proofs.lemmas.Bool.{cases_lt}

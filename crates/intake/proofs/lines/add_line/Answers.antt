@@ -1,10 +1,10 @@
-use Rattle.std.proofs.Common.{◌≡◌, ℕ, List, take, Result, sym, ap, ◌∙◌}
+use Rattle.std.proofs.Common.{ℕ, List, take, Result, ap, ◌∙◌}
 use Rattle.std.specs.Option.{option_map}
 use Rattle.book.specs.declared.filed_row.FiledRow.{FiledRow}
 use Rattle.energy.specs.PartyCodes.{code_text}
 use Rattle.nomination.specs.Reading.{line_at, line_values}
 use Rattle.nomination.specs.ValuesHeld.{said, values_said}
-use Rattle.intake.specs.Filing.{row_of, row_into, line_into}
+use Rattle.intake.specs.Filing.{row_into, line_into}
 use Rattle.intake.specs.Intake.{day_of, space_of}
 use Rattle.intake.specs.Noting.{noted, row_from}
 use Rattle.intake.specs.declared.fault.FileFault.{FileFault}

@@ -1,4 +1,4 @@
-use Rattle.std.proofs.Common.{◌≡◌, ap, arith, rules}
+use Rattle.std.proofs.Common.{◌≡◌, arith, rules}
 use Rattle.nomination.specs.Lines.{fields_of}
 use Rattle.nomination.proofs.Fielding.{comma_there, fields_step, field_here, field_long, start_more}
 use Rattle.nomination.proofs.Marking.{place_within}

@@ -1,4 +1,4 @@
-use Rattle.std.proofs.Common.{◌<◌, ◌≤◌, length, sym, arith, rules}
+use Rattle.std.proofs.Common.{◌≤◌, length, sym, arith, rules}
 use Rattle.nomination.proofs.Digiting.{number_small, pow_most}
 use Rattle.nomination.proofs.numbers.read_period.Goals as goal
 

@@ -1,6 +1,4 @@
-use Rattle.std.proofs.Common.{◌≡◌, ℕ, List, ap, ◌∙◌}
-use Rattle.nomination.specs.Texts.{line_text}
-use Rattle.nomination.specs.ValuesHeld.{values_said}
+use Rattle.std.proofs.Common.{ℕ, List, ap, ◌∙◌}
 use Rattle.nomination.specs.Writing.{placed}
 use Rattle.nomination.proofs.LineBack.{written_back}
 use Rattle.nomination.proofs.write.write_line.Goals as goal

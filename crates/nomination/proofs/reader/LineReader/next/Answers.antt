@@ -1,4 +1,4 @@
-use Rattle.std.proofs.Common.{take, drop, arith, length-drop, length-take}
+use Rattle.std.proofs.Common.{arith, length-drop, length-take}
 use Rattle.nomination.proofs.Marking.{place_within}
 use Rattle.nomination.proofs.reader.LineReader.next.Goals as goal
 
