@@ -1,7 +1,6 @@
 // Filed entries as a kind of row of a book.
 ghost use Rattle.book.specs.FiledRows.{filed_fit, filed_under, filed_most};
 ghost use Rattle.book.specs.FiledEntries.{filed_written};
-ghost use Rattle.std.proofs.Common.{rules};
 
 use crate::filed_entry::FiledEntry;
 use crate::filed_row::{FiledKey, FiledRow};
@@ -20,7 +19,7 @@ impl Row for FiledRow {
 
     ghost most = { filed_most };
 
-    ghost sound = { Prim.search rules };
+    ghost sound = { λ e. e.sound };
 
     fn entry(&self) -> Option<FiledEntry> {
         if self.passes() {

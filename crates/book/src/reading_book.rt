@@ -1,7 +1,6 @@
 // Readings as a kind of row of a book.
 ghost use Rattle.book.specs.ReadingRows.{reading_fit, reading_under, reading_most};
 ghost use Rattle.book.specs.Readings.{reading_written};
-ghost use Rattle.std.proofs.Common.{rules};
 
 use crate::reading::Reading;
 use crate::reading_row::{ReadingKey, ReadingRow};
@@ -20,7 +19,7 @@ impl Row for ReadingRow {
 
     ghost most = { reading_most };
 
-    ghost sound = { Prim.search rules };
+    ghost sound = { λ e. e.sound };
 
     fn entry(&self) -> Option<Reading> {
         if self.passes() {
