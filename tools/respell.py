@@ -38,7 +38,7 @@ def spans(text, names):
 
 
 def antt(text, names):
-    """Code turns; a comment turns in its code spans and where it has a word in camel case."""
+    """Code turns, and of a comment its code spans."""
     out = []
     for line in text.split("\n"):
         code, mark, said = line.partition("-- ") if line.lstrip().startswith("-- ") else (line, "", "")
