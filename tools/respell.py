@@ -13,7 +13,7 @@ import os
 import re
 
 HERE = os.path.dirname(os.path.realpath(__file__))
-WORD = re.compile(r'(?<![^\s(){}.;,@"«»`\[\]])([^\s(){}.;,@"«»`\[\]]+)')
+WORD = re.compile(r'(?<![^\s(){}.;,:@"«»`\[\]])([^\s(){}.;,:@"«»`\[\]]+)')
 SPAN = re.compile(r"`[^`\n]+`")
 # Lemmas that the kit's script had spelled like a definition of the same crate already.
 ALONE = {"crates/nomination/proofs/Bounding.antt": {"some_of": "some_of_lem"}}

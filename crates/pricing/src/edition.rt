@@ -20,9 +20,9 @@ pub enum Edition {
 }
 
 impl PriceEdition for Edition {
-    ghost spillAmount = { edition_spill };
+    ghost spill_amount = { edition_spill };
 
-    ghost makeupCharge = { edition_makeup };
+    ghost makeup_charge = { edition_makeup };
 
     fn spill_amount(
         &self,

@@ -17,9 +17,9 @@ use energy::Micropence;
 pub struct Edition3;
 
 impl PriceEdition for Edition3 {
-    ghost spillAmount = { λ _. third_spill };
+    ghost spill_amount = { λ _. third_spill };
 
-    ghost makeupCharge = { λ _. third_makeup };
+    ghost makeup_charge = { λ _. third_makeup };
 
     fn spill_amount(
         &self,

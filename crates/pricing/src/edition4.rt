@@ -18,9 +18,9 @@ use energy::Micropence;
 pub struct Edition4;
 
 impl PriceEdition for Edition4 {
-    ghost spillAmount = { λ _. fourth_spill };
+    ghost spill_amount = { λ _. fourth_spill };
 
-    ghost makeupCharge = { λ _. fourth_makeup };
+    ghost makeup_charge = { λ _. fourth_makeup };
 
     fn spill_amount(
         &self,

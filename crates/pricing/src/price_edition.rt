@@ -15,10 +15,10 @@ use energy::{Kwh, Micropence, Rate};
 /// An edition of the prices of spill and makeup.
 pub trait PriceEdition {
     /// What a spill is paid, by the day, the base, the local nomination and the spill.
-    ghost spillAmount: { Self → TradingDay → Kwh → Kwh → Kwh → Micropence };
+    ghost spill_amount: { Self → TradingDay → Kwh → Kwh → Kwh → Micropence };
 
     /// What a shortage is charged, by the day, the period, the base, the rate and the shortage.
-    ghost makeupCharge: { Self → TradingDay → Period → Kwh → Rate → Kwh → Micropence };
+    ghost makeup_charge: { Self → TradingDay → Period → Kwh → Rate → Kwh → Micropence };
 
     /// The amount paid for a spill.
     fn spill_amount(
@@ -28,7 +28,7 @@ pub trait PriceEdition {
         nomination: PricedEnergy,
         spill: PricedEnergy,
     ) -> Micropence
-        ensures { result ≡ spillAmount self.now day base.energy nomination.energy spill.energy };
+        ensures { result ≡ spill_amount self.now day base.energy nomination.energy spill.energy };
 
     /// The charge for a shortage.
     fn makeup_charge(
@@ -39,5 +39,5 @@ pub trait PriceEdition {
         rate: PricedRate,
         shortage: Shortage,
     ) -> Micropence
-        ensures { result ≡ makeupCharge self.now day period base.energy rate.rate shortage.energy };
+        ensures { result ≡ makeup_charge self.now day period base.energy rate.rate shortage.energy };
 }
