@@ -1,11 +1,11 @@
 // Units, sides, directions and party codes, and the one routine that adds up kWh figures.
 #![tactic(auto)]
 
-pub mod direction;
-pub mod figure;
-pub mod party_code;
-pub mod side;
-pub mod unit;
+mod direction;
+mod figure;
+mod party_code;
+mod side;
+mod unit;
 
 pub use direction::Direction;
 pub use figure::{EnergyFigure, total};

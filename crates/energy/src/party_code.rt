@@ -5,7 +5,7 @@ ghost use Rattle.energy.specs.Codes.{well_formed, first_four};
 mod calls;
 
 /// A party's code: four characters, each A to Z or 0 to 9.
-#[derive(Clone, Copy)]
+#[derive(Clone, Copy, PartialEq, Eq, Debug)]
 pub struct PartyCode {
     chars: [u8; 4],
     ghost sound: { well_formed (first_four chars) ≡ true },
