@@ -27,12 +27,6 @@ pub record Exactly (q : Quotient) (share : ExactShare) : Type 0 where
   pub proper : share.numerator < share.denominator
   pub lowest : Coprime share.numerator share.denominator
 
--- g divides both, and whatever divides both divides it.
-pub record GreatestCommon (m n g : ℕ) : Type 0 where
-  pub left : g ∣ m
-  pub right : g ∣ n
-  pub greatest : (k : ℕ) → k ∣ m → k ∣ n → k ∣ g
-
 -- A fraction is written as numerator, stroke and denominator.
 abbrev pub fraction_text : ExactShare → List ℕ
 fraction_text share = decimal share.numerator ++ (codes "/" ++ decimal share.denominator)

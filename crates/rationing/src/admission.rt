@@ -9,7 +9,7 @@ use energy::{Kwh, total};
 const MOST_CLAIMS: usize = 16;
 
 /// Sixteen senders to sixteen receivers at 9,999,999 kWh each.
-const LARGEST_SUM: u64 = 2_559_999_744;
+const LARGEST_SUM: Kwh = Kwh(2_559_999_744);
 
 /// The sum of claims that a rule answers with that many awards, or the refusal.
 pub fn admitted_sum(claims: &[Kwh], places: usize) -> Result<Kwh, RationingRefusal>
@@ -18,8 +18,7 @@ pub fn admitted_sum(claims: &[Kwh], places: usize) -> Result<Kwh, RationingRefus
     if claims.len() != places || claims.len() > MOST_CLAIMS {
         return Err(RationingRefusal::ClaimsOutsideLimits);
     }
-    match total(claims) {
-        Some(sum) if sum.0 <= LARGEST_SUM => Ok(sum),
-        _ => Err(RationingRefusal::ClaimsOutsideLimits),
-    }
+    total(claims)
+        .filter(|sum| *sum <= LARGEST_SUM)
+        .ok_or(RationingRefusal::ClaimsOutsideLimits)
 }

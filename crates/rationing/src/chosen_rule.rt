@@ -11,6 +11,7 @@ use crate::running_rule::RunningRule;
 use energy::Kwh;
 
 /// One of the rules that stand ready.
+// A closed set, which the call matches: a `dyn RationingRule` would not say which rules stand ready.
 #[derive(Clone, Copy)]
 pub enum ChosenRule {
     Register(RegisterRule),

@@ -1,40 +1,43 @@
-// What all rules share: they ask whether the claims are admitted, and give each its claim where the amount allows.
-ghost use Rattle.std.specs.Prelude.{◌≡◌, ◌<◌, List, length, if◌then◌else◌};
+// What all rules share but how they divide: they ask whether the claims are admitted, and give each its claim where the amount allows.
+ghost use Rattle.std.specs.Prelude.{◌≡◌, List, length};
 ghost use Rattle.energy.specs.declared.unit.Kwh.{Kwh};
-ghost use Rattle.energy.specs.Totals.{sum_kwh};
-ghost use Rattle.rationing.specs.Admission.{admits, answered};
-ghost use Rattle.rationing.specs.Quota.{whole_or};
+ghost use Rattle.rationing.specs.Quota.{Quota, whole_or};
 
 use crate::admission::admitted_sum;
 use crate::refusal::RationingRefusal;
+use crate::rule::RationingRule;
+use crate::shortfall::Shortfall;
+use crate::uncovered::Uncovered;
 use energy::Kwh;
 
 /// How a rule divides an amount that does not cover the claims.
 pub trait Dividing {
+    /// The awards that use up a smaller amount.
     ghost divides: { Self → Kwh → List Kwh → List Kwh };
 
-    fn divide(&self, amount: Kwh, sum: Kwh, claims: &[Kwh], out: &mut [Kwh])
-        requires short { amount.0 < sum.0 }
-        requires summed { sum.0 ≡ sum_kwh claims.now }
-        requires long { length out.old ≡ length claims.now }
-        ensures { out.new ≡ divides self.now amount claims.now };
+    /// Writes these awards into `out`.
+    fn divide(&self, uncovered: Uncovered, out: &mut [Kwh])
+        requires { length out.old ≡ length uncovered.claims.now }
+        ensures { out.new ≡ divides self.now uncovered.entry.shortfall.amount uncovered.entry.claims.now };
+
+    /// With each claim whole where the amount covers the claims, it keeps the quota law.
+    ghost quota: { (rule : Self) (amount : Kwh) (claims : List Kwh) → Quota amount claims (whole_or (divides rule) amount claims) };
 }
 
-/// The call of a rule that divides so.
-pub fn ration_by<D: Dividing>(
-    rule: &D,
-    amount: Kwh,
-    claims: &[Kwh],
-    out: &mut [Kwh],
-) -> Result<(), RationingRefusal>
-    ensures answer { result ≡ answered (admits claims.now (length out.old)) }
-    ensures written { out.new ≡ (if admits claims.now (length out.old) then whole_or (D.divides rule.now) amount claims.now else out.old) }
-{
-    let sum = admitted_sum(claims, out.len())?;
-    if sum.0 <= amount.0 {
-        out.copy_from_slice(claims);
-    } else {
-        rule.divide(amount, sum, claims, out);
+/// Whatever divides so is a rule: it gives each its claim where the amount covers the claims.
+impl<D: Dividing> RationingRule for D {
+    ghost awards = { λ rule. whole_or (D.divides rule) };
+
+    ghost quota = { λ rule amount claims. D.quota rule amount claims };
+
+    fn ration(&self, amount: Kwh, claims: &[Kwh], out: &mut [Kwh]) -> Result<(), RationingRefusal> {
+        let sum = admitted_sum(claims, out.len())?;
+        if sum <= amount {
+            out.copy_from_slice(claims);
+        } else {
+            let shortfall = Shortfall { amount, sum };
+            self.divide(Uncovered { shortfall, claims }, out);
+        }
+        Ok(())
     }
-    Ok(())
 }

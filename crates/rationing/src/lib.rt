@@ -4,12 +4,13 @@
 mod admission;
 mod chosen_rule;
 mod dividing;
-mod division;
 mod refusal;
 mod register_rule;
 mod rule;
 mod running_rule;
 mod share;
+mod shortfall;
+mod uncovered;
 
 pub use chosen_rule::ChosenRule;
 pub use refusal::RationingRefusal;

@@ -8,17 +8,16 @@ use std::fmt;
 #[derive(Clone, Copy, PartialEq, Eq, Debug)]
 pub enum RationingRefusal {
     /// The lists differ in length, are too long, or the claims sum to too much.
-    ClaimsOutsideLimits,
+    ClaimsOutsideLimits = 20,
 }
 
 impl RationingRefusal {
     /// The number under which members know the refusal.
+    // No trait over all refusals: each kind has its own definition, and the body is one cast.
     pub fn number(self) -> u8
         ensures { result ≡ refusal_number self }
     {
-        match self {
-            RationingRefusal::ClaimsOutsideLimits => 20,
-        }
+        self as u8
     }
 }
 

@@ -1,8 +1,9 @@
 // A claim's exact share, before it is rounded to whole kWh.
-ghost use Rattle.std.specs.Prelude.{◌*◌, ◌<◌, Some};
-ghost use Rattle.rationing.specs.Share.{Exactly, quotient, over, GreatestCommon, share_text};
+ghost use Rattle.std.specs.Prelude.{◌*◌, Some};
+ghost use Rattle.std.specs.Int.{IsGcd};
+ghost use Rattle.rationing.specs.Share.{Exactly, quotient, over, share_text};
 
-use crate::division::divided;
+use crate::shortfall::Shortfall;
 use energy::Kwh;
 use std::fmt;
 
@@ -19,10 +20,10 @@ pub struct ExactShare {
 pub fn exact_share(amount: Kwh, claim: Kwh, sum: Kwh) -> ExactShare
     ensures { Exactly (quotient amount claim sum) result }
 {
-    if sum.0 <= amount.0 {
+    if sum <= amount {
         whole_share(claim)
     } else {
-        partial_share(amount, claim, sum)
+        partial_share(Shortfall { amount, sum }, claim)
     }
 }
 
@@ -36,16 +37,16 @@ fn whole_share(claim: Kwh) -> ExactShare
     }
 }
 
-fn partial_share(amount: Kwh, claim: Kwh, sum: Kwh) -> ExactShare
-    requires short { amount.0 < sum.0 }
-    ensures { Exactly (over (amount.0 * claim.0) sum.0) result }
+fn partial_share(shortfall: Shortfall, claim: Kwh) -> ExactShare
+    ensures { Exactly (over (shortfall.amount.0 * claim.0) shortfall.sum.0) result }
 {
-    let (whole, rest) = divided(amount, claim, sum);
-    let common = common_divisor(rest, sum.0);
+    let (whole, rest) = shortfall.divided(claim);
+    let sum = shortfall.sum.0;
+    let common = common_divisor(rest, sum);
     ExactShare {
         whole: Kwh(whole),
         numerator: rest / common,
-        denominator: sum.0 / common,
+        denominator: sum / common,
     }
 }
 
@@ -53,9 +54,11 @@ impl fmt::Display for ExactShare {
     ghost output = { λ share. Some (share_text share) };
 
     fn fmt<W: fmt::Write>(&self, f: &mut fmt::Formatter<W>) -> fmt::Result {
-        let whole = self.whole.0;
-        let numerator = self.numerator;
-        let denominator = self.denominator;
+        let ExactShare {
+            whole: Kwh(whole),
+            numerator,
+            denominator,
+        } = *self;
         if numerator == 0 {
             write!(f, "{whole}")
         } else if whole == 0 {
@@ -67,15 +70,11 @@ impl fmt::Display for ExactShare {
 }
 
 /// The greatest common divisor, by Euclid's algorithm.
-fn common_divisor(a: u64, b: u64) -> u64
-    ensures { GreatestCommon a b result }
+fn common_divisor(mut a: u64, mut b: u64) -> u64
+    ensures { IsGcd a b result }
 {
-    let mut greater = a;
-    let mut lesser = b;
-    while lesser > 0 {
-        let rest = greater % lesser;
-        greater = lesser;
-        lesser = rest;
+    while b > 0 {
+        (a, b) = (b, a % b);
     }
-    greater
+    a
 }

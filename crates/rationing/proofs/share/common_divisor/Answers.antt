@@ -1,18 +1,10 @@
-use Rattle.std.proofs.Common.{◌≡◌, ℕ, sym, subst, arith}
-use Prim.Native.Nat.{◌∣◌}
-use native.Mathlib.Nat.{dvd-mod_iff, dvd_refl, dvd-zero}
+use Rattle.std.proofs.Common.{arith}
+use Rattle.std.proofs.lemmas.Nat.Gcd.{IsGcd-from_mod, IsGcd-from_zero}
 use Rattle.rationing.proofs.share.common_divisor.Goals as goal
 
-pub loop-lesser-preserved : goal.loop-lesser-preserved
-loop-lesser-preserved c = (
-  λ k lesser rest. c.loop-lesser.invariant.0 k ((dvd-mod_iff k lesser).0 rest) lesser,
-  λ k a b. let both = c.loop-lesser.invariant.1 k a b in (both.1, (dvd-mod_iff k both.1).1 both.0),
-)
+pub loop-b-preserved : goal.loop-b-preserved
+loop-b-preserved c = λ g h. c.loop-b.invariant g (IsGcd-from_mod _ _ g h)
 
 -- the lesser is 0, so the greater divides both
 pub returns : goal.returns
-returns c =
-    let none : c.loop-lesser.lesser ≡ 0 = omega arith in
-    let zero = subst (λ (n : ℕ). c.loop-lesser.greater ∣ n) (sym none) (dvd-zero c.loop-lesser.greater) in
-    let both = c.loop-lesser.invariant.0 c.loop-lesser.greater (dvd_refl c.loop-lesser.greater) zero in
-    record { left = both.0; right = both.1; greatest = λ k a b. (c.loop-lesser.invariant.1 k a b).0 }
+returns c = c.loop-b.invariant c.loop-b.a (IsGcd-from_zero c.loop-b.a c.loop-b.b (omega arith))

@@ -1,10 +1,10 @@
 use Rattle.std.proofs.Common.{ℕ}
-use Prim.Native.Nat.{◌∣◌}
+use Rattle.std.specs.Int.{IsGcd}
 use Rattle.rationing.proofs.share.common_divisor.Given as goal
 
 -- what divides both numbers stays the same
-abbrev pub invariant-loop-lesser : goal.invariant-loop-lesser
-invariant-loop-lesser l = ((k : ℕ) → k ∣ l.greater → k ∣ l.lesser → (k ∣ l.a) × (k ∣ l.b)) × ((k : ℕ) → k ∣ l.a → k ∣ l.b → (k ∣ l.greater) × (k ∣ l.lesser))
+abbrev pub invariant-loop-b : goal.invariant-loop-b
+invariant-loop-b l = (g : ℕ) → IsGcd l.a l.b g → IsGcd l.fn.a l.fn.b g
 
-abbrev pub decreases-loop-lesser : goal.decreases-loop-lesser
-decreases-loop-lesser l = l.lesser
+abbrev pub decreases-loop-b : goal.decreases-loop-b
+decreases-loop-b l = l.b
