@@ -1,5 +1,5 @@
 -- The Gregorian calendar, and the dates on which a trading day can start.
-use Rattle.std.specs.Prelude.{ℕ, ◌+◌, ◌*◌, ◌/◌, ◌%◌, Bool, cond, not, ◌&&◌, ◌||◌, Some, None, Option, ◌==◌, nat_le, nat_lt}
+use Rattle.std.specs.Prelude.{ℕ, ◌+◌, ◌*◌, ◌/◌, ◌%◌, Bool, cond, not, ◌&&◌, ◌||◌, Some, None, Option, List, ◌++◌, codes, decimal, ◌==◌, nat_le, nat_lt}
 
 -- Three numbers that may name a day of the calendar.
 pub record CalendarDay : Type 0 where
@@ -42,6 +42,10 @@ is_date n = (nat_le 2003_04_01 n && nat_le n 2099_12_31) && in_calendar (day_nam
 -- The date that a number names, where it is one.
 abbrev pub date_named : ℕ → Option CalendarDay
 date_named n = cond (is_date n) (Some (day_named n)) None
+
+-- What is written of a number that names no date.
+abbrev pub no_date_text : ℕ → List ℕ
+no_date_text n = codes "no trading day starts on " ++ decimal n
 
 -- The day after: the next day of the month, after its last day the first of the next month, and
 -- after the last day of December 1 January.

@@ -1,7 +1,8 @@
 -- The periods of a day, and their rows in the makeup factor table.
-use Rattle.std.specs.Prelude.{ℕ, ◌+◌, ◌-◌, ◌%◌, cond, ◌&&◌, Some, None, Option, ◌==◌, nat_le}
+use Rattle.std.specs.Prelude.{ℕ, ◌+◌, ◌-◌, ◌%◌, cond, ◌&&◌, Some, None, Option, List, ◌++◌, codes, decimal, ◌==◌, nat_le}
 use Rattle.calendar.specs.declared.length.DayLength.{DayLength}
 use Rattle.calendar.specs.declared.length.DayLength.TheVariants.{Short, Normal, Long}
+use Rattle.calendar.specs.declared.length.NoLength.{NoLength}
 
 -- A short day has 46 periods, a normal day 48 and a long day 50.
 abbrev pub periods_of : DayLength → ℕ
@@ -14,6 +15,13 @@ abbrev pub length_with : ℕ → Option DayLength
 length_with n =
     cond (n == 46) (Some Short)
     (cond (n == 48) (Some Normal) (cond (n == 50) (Some Long) None))
+
+-- A number of periods that no day has, and what is written of it.
+abbrev pub no_length : ℕ → NoLength
+no_length n = record { 0 = n }
+
+abbrev pub no_length_text : ℕ → List ℕ
+no_length_text n = codes "no day has " ++ decimal n ++ codes " periods"
 
 -- A day has the period with a number when that is from 1 to the number of its periods.
 abbrev pub period_numbered : DayLength → ℕ → Option ℕ

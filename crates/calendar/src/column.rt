@@ -7,7 +7,7 @@ ghost use Rattle.calendar.specs.TradingDays.{start_day};
 use crate::day::TradingDay;
 use crate::season::MakeupSeason;
 
-/// The kind of day that a column of the makeup factor table is for.
+/// The kind of day that a column of the makeup factor table is for, in the order of the columns.
 #[derive(Clone, Copy, PartialEq, Eq, Debug)]
 pub enum FactorColumn {
     MaySeptemberWorkday,

@@ -3,6 +3,9 @@ ghost use Rattle.std.specs.Prelude.{◌+◌, ◌*◌, ◌≤◌};
 ghost use Rattle.calendar.specs.Calendar.{month_days};
 
 mod calls;
+mod no_date;
+
+pub use no_date::NoDate;
 
 /// A date from 1 April 2003 to 31 December 2099.
 #[derive(Clone, Copy, PartialEq, Eq, Debug)]

@@ -13,9 +13,9 @@ mod theorems;
 mod weekday;
 
 pub use column::FactorColumn;
-pub use date::Date;
+pub use date::{Date, NoDate};
 pub use day::TradingDay;
-pub use length::DayLength;
+pub use length::{DayLength, NoLength};
 pub use period::Period;
 pub use row::{Row, table_row};
 pub use season::{MakeupSeason, SpillSeason};

@@ -1,7 +1,7 @@
 // The months of the calendar.
-ghost use Rattle.std.specs.Prelude.{◌≡◌, ◌*◌, ◌≤◌};
+ghost use Rattle.std.specs.Prelude.{◌≡◌, ◌*◌, ◌<◌, ◌≤◌};
 ghost use Rattle.calendar.specs.Calendar.{leap, month_days};
-ghost use Rattle.calendar.specs.Weekdays.{days_before};
+ghost use Rattle.calendar.specs.Weekdays.{days_before, counted_month_days};
 
 /// Whether the year has a 29 February.
 fn is_leap(year: u16) -> bool
@@ -28,11 +28,17 @@ pub(crate) fn days_before(months: u32) -> u32
     ensures counted { result ≡ days_before months }
     ensures bound { result ≤ 31 * months }
 {
-    let mut days: u32 = 0;
-    for k in 0..months {
-        let year = 2003 + (k + 3) / 12;
-        let month = (k + 3) % 12 + 1;
-        days += days_in_month(year as u16, month as u8) as u32;
-    }
-    days
+    (0..months).map(counted_month_days).sum()
+}
+
+/// The days of the month that comes so many months after April 2003.
+fn counted_month_days(months: u32) -> u32
+    requires { months < 1200 }
+    ensures value { result ≡ counted_month_days months }
+    ensures bound { result ≤ 31 }
+{
+    let since_january = months + 3;
+    let year = 2003 + since_january / 12;
+    let month = since_january % 12 + 1;
+    days_in_month(year as u16, month as u8) as u32
 }

@@ -18,7 +18,7 @@ impl Period {
     pub fn of_day(length: DayLength, number: u64) -> Option<Period>
         ensures { option_map (λ p. p.number) result ≡ period_numbered length number }
     {
-        if number < 1 || number > length.periods() as u64 {
+        if !(1..=length.periods() as u64).contains(&number) {
             return None;
         }
         Some(Period {

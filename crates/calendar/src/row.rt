@@ -5,6 +5,7 @@ ghost use Rattle.calendar.specs.Periods.{row_of};
 use crate::length::DayLength;
 use crate::period::Period;
 
+// Not `Numbered<48>`: a bound would stand for the word in every message and definition, to save two lines.
 /// A row of the makeup factor table, from 1 to 48, by the time of day.
 #[derive(Clone, Copy, PartialEq, Eq, Debug)]
 pub struct Row {

@@ -1,5 +1,5 @@
 // The days of the week.
-ghost use Rattle.std.specs.Prelude.{◌≡◌, ◌<◌};
+ghost use Rattle.std.specs.Prelude.{◌≡◌};
 ghost use Rattle.calendar.specs.Columns.{weekend};
 ghost use Rattle.calendar.specs.Weekdays.{onward};
 
@@ -24,25 +24,20 @@ impl Weekday {
     }
 }
 
+/// The week from the Tuesday on which the calendar starts.
+const FROM_TUESDAY: [Weekday; 7] = [
+    Weekday::Tuesday,
+    Weekday::Wednesday,
+    Weekday::Thursday,
+    Weekday::Friday,
+    Weekday::Saturday,
+    Weekday::Sunday,
+    Weekday::Monday,
+];
+
 /// The weekday so many days after a Tuesday.
 pub(crate) fn after_tuesday(days: u32) -> Weekday
     ensures { result ≡ onward Weekday.Tuesday days }
 {
-    within_week(days % 7)
-}
-
-/// The same for less than a week.
-fn within_week(days: u32) -> Weekday
-    requires { days < 7 }
-    ensures { result ≡ onward Weekday.Tuesday days }
-{
-    match days {
-        0 => Weekday::Tuesday,
-        1 => Weekday::Wednesday,
-        2 => Weekday::Thursday,
-        3 => Weekday::Friday,
-        4 => Weekday::Saturday,
-        5 => Weekday::Sunday,
-        _ => Weekday::Monday,
-    }
+    FROM_TUESDAY[days as usize % 7]
 }

@@ -1,12 +1,13 @@
 // What a date can be asked.
 ghost use Rattle.std.specs.Prelude.{◌≡◌, Some};
-ghost use Rattle.std.specs.Option.{option_map};
+ghost use Rattle.std.specs.Option.{ok_or};
+ghost use Rattle.std.specs.Result.{result_map_both};
 ghost use Rattle.calendar.specs.Calendar.{date_named, numbered, following};
-ghost use Rattle.calendar.specs.Dates.{calendar_day};
+ghost use Rattle.calendar.specs.Dates.{calendar_day, no_date};
 ghost use Rattle.calendar.specs.Seasons.{place_of};
 ghost use Rattle.calendar.specs.Weekdays.{day_after, days_since, weekday_of};
 
-use crate::date::Date;
+use crate::date::{Date, NoDate};
 use crate::month::{days_before, days_in_month};
 use crate::weekday::{Weekday, after_tuesday};
 
@@ -17,23 +18,27 @@ const LAST_NUMBER: u64 = 2099_12_31;
 /// Months are counted from April 2003: its year times 12, and its month.
 const APRIL_2003: u32 = 12 * 2003 + 4;
 
-impl Date {
+impl TryFrom<u64> for Date {
+    type Error = NoDate;
+
+    ghost try_from_gives = { λ number outcome. result_map_both calendar_day (λ e. e) outcome ≡ ok_or (date_named number) (no_date number) };
+
     /// The date that a number YYYYMMDD names, where it is one.
-    pub fn from_number(number: u64) -> Option<Date>
-        ensures { option_map calendar_day result ≡ date_named number }
-    {
-        if number < FIRST_NUMBER || number > LAST_NUMBER {
-            return None;
+    fn try_from(number: u64) -> Result<Date, NoDate> {
+        if !(FIRST_NUMBER..=LAST_NUMBER).contains(&number) {
+            return Err(NoDate(number));
         }
         let year = (number / 10_000) as u16;
         let month = (number / 100 % 100) as u8;
         let day = (number % 100) as u8;
-        if month < 1 || month > 12 || day < 1 || day > days_in_month(year, month) {
-            return None;
+        if !(1..=12).contains(&month) || !(1..=days_in_month(year, month)).contains(&day) {
+            return Err(NoDate(number));
         }
-        Some(Date { year, month, day })
+        Ok(Date { year, month, day })
     }
+}
 
+impl Date {
     /// The date's number YYYYMMDD, which names this date again.
     pub fn number(self) -> u32
         ensures value { result ≡ numbered (calendar_day self) }
