@@ -1,7 +1,5 @@
 -- The largest energies and rates that are priced.
 use Rattle.std.specs.Prelude.{ℕ, ◌*◌, cond, Some, None, Option, nat_le}
-use Rattle.energy.specs.declared.unit.Kwh.{Kwh}
-use Rattle.energy.specs.declared.unit.Rate.{Rate}
 
 -- A base, a nomination, an actual demand, an export and a spill are at most 200,000,000 kWh.
 abbrev pub most_energy : ℕ
@@ -15,10 +13,6 @@ most_shortage = 2 * most_energy
 abbrev pub most_rate : ℕ
 most_rate = 100000
 
--- An energy where it is at most so many kWh, and none where it is more.
-abbrev pub energy_up_to : ℕ → Kwh → Option Kwh
-energy_up_to most e = cond (nat_le e.0 most) (Some e) None
-
--- A rate where it is at most so many millipence per kWh, and none where it is more.
-abbrev pub rate_up_to : ℕ → Rate → Option Rate
-rate_up_to most u = cond (nat_le u.0 most) (Some u) None
+-- An amount where it is at most so many of its unit, and none where it is more.
+abbrev pub up_to : {A : Type 0} → (A → ℕ) → ℕ → A → Option A
+up_to count most amount = cond (nat_le (count amount) most) (Some amount) None

@@ -12,9 +12,15 @@ use Rattle.energy.specs.Units.{kwh}
 use Rattle.energy.specs.declared.unit.Kwh.{Kwh}
 use Rattle.pricing.specs.DemandErrors.{spill_of, shortage_of}
 use Rattle.pricing.specs.Factors.{factor_of}
+use Rattle.pricing.specs.Limits.{most_energy, most_shortage, most_rate}
 use Rattle.pricing.specs.Makeup.{factored_charge}
 use Rattle.pricing.specs.Money.{micropence, millipence}
 use Rattle.pricing.specs.Spills.{fourth_spill}
+use Rattle.pricing.specs.declared.limited.TheConstants.{MOST_ENERGY, MOST_SHORTAGE, MOST_RATE}
+
+-- The types of energies, shortages and rates have the limits that these are priced up to.
+abbrev pub LimitsKept : Type 0
+LimitsKept = (MOST_ENERGY ≡ most_energy) × (MOST_SHORTAGE ≡ most_shortage) × (MOST_RATE ≡ most_rate)
 
 -- Every factor of the table, at each column and each of the 48 rows, is from 1.0 to 1.5.
 abbrev pub FactorRange : Type 0

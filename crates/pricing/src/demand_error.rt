@@ -3,8 +3,7 @@ ghost use Rattle.std.specs.Prelude.{◌≡◌, pos, neg_ℤ, ◌≤ℤ◌};
 ghost use Rattle.pricing.specs.Limits.{most_energy, most_shortage};
 ghost use Rattle.pricing.specs.DemandErrors.{error_of, spill_of, shortage_of};
 
-use crate::priced_energy::PricedEnergy;
-use crate::shortage::Shortage;
+use crate::limited::{PricedEnergy, Shortage};
 use energy::Kwh;
 
 /// Demand Error in kWh: above zero a spill, below zero a shortage.
@@ -18,9 +17,9 @@ pub struct DemandError {
 impl DemandError {
     /// The base less the actual demand and less the export.
     pub fn new(base: PricedEnergy, actual: PricedEnergy, export: PricedEnergy) -> DemandError
-        ensures { result.kwh ≡ error_of base.energy actual.energy export.energy }
+        ensures { result.kwh ≡ error_of base.amount actual.amount export.amount }
     {
-        let kwh = base.energy.0 as i64 - actual.energy.0 as i64 - export.energy.0 as i64;
+        let kwh = base.amount.0 as i64 - actual.amount.0 as i64 - export.amount.0 as i64;
         DemandError { kwh }
     }
 
@@ -33,21 +32,19 @@ impl DemandError {
 
     /// The spill: the error where it is above zero, and else 0.
     pub fn spill(self) -> PricedEnergy
-        ensures { result.energy ≡ spill_of self.kwh }
+        ensures { result.amount ≡ spill_of self.kwh }
     {
-        let error = self.signed_kwh();
-        let spilled = if error > 0 { error as u64 } else { 0 };
         PricedEnergy {
-            energy: Kwh(spilled),
+            amount: Kwh(self.kwh.max(0).unsigned_abs()),
         }
     }
 
     /// The shortage: minus the error where it is below zero, and else 0.
     pub fn shortage(self) -> Shortage
-        ensures { result.energy ≡ shortage_of self.kwh }
+        ensures { result.amount ≡ shortage_of self.kwh }
     {
-        let error = self.signed_kwh();
-        let short = if error < 0 { (-error) as u64 } else { 0 };
-        Shortage { energy: Kwh(short) }
+        Shortage {
+            amount: Kwh(self.kwh.min(0).unsigned_abs()),
+        }
     }
 }

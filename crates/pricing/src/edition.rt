@@ -4,14 +4,14 @@ ghost use Rattle.pricing.specs.Editions.{edition_spill, edition_makeup, edition_
 
 use crate::edition3::Edition3;
 use crate::edition4::Edition4;
+use crate::makeup::Makeup;
 use crate::price_edition::PriceEdition;
-use crate::priced_energy::PricedEnergy;
-use crate::priced_rate::PricedRate;
-use crate::shortage::Shortage;
+use crate::spill::Spilled;
 use calendar::{Period, TradingDay};
 use energy::Micropence;
 use std::fmt;
 
+// A closed set, which each call matches: a `dyn PriceEdition` would not say which editions a day can have.
 /// One of the editions that a day can have.
 #[derive(Clone, Copy, PartialEq, Eq, Debug)]
 pub enum Edition {
@@ -24,30 +24,17 @@ impl PriceEdition for Edition {
 
     ghost makeup_charge = { edition_makeup };
 
-    fn spill_amount(
-        &self,
-        day: TradingDay,
-        base: PricedEnergy,
-        nomination: PricedEnergy,
-        spill: PricedEnergy,
-    ) -> Micropence {
+    fn spill_amount(&self, day: TradingDay, spilled: Spilled) -> Micropence {
         match self {
-            Edition::Third(edition) => edition.spill_amount(day, base, nomination, spill),
-            Edition::Fourth(edition) => edition.spill_amount(day, base, nomination, spill),
+            Edition::Third(edition) => edition.spill_amount(day, spilled),
+            Edition::Fourth(edition) => edition.spill_amount(day, spilled),
         }
     }
 
-    fn makeup_charge(
-        &self,
-        day: TradingDay,
-        period: Period,
-        base: PricedEnergy,
-        rate: PricedRate,
-        shortage: Shortage,
-    ) -> Micropence {
+    fn makeup_charge(&self, day: TradingDay, period: Period, makeup: Makeup) -> Micropence {
         match self {
-            Edition::Third(edition) => edition.makeup_charge(day, period, base, rate, shortage),
-            Edition::Fourth(edition) => edition.makeup_charge(day, period, base, rate, shortage),
+            Edition::Third(edition) => edition.makeup_charge(day, period, makeup),
+            Edition::Fourth(edition) => edition.makeup_charge(day, period, makeup),
         }
     }
 }
@@ -56,9 +43,9 @@ impl fmt::Display for Edition {
     ghost output = { λ edition. Some (edition_text edition) };
 
     fn fmt<W: fmt::Write>(&self, f: &mut fmt::Formatter<W>) -> fmt::Result {
-        match self {
-            Edition::Third(_) => write!(f, "3.0"),
-            Edition::Fourth(_) => write!(f, "4.0"),
-        }
+        f.write_str(match self {
+            Edition::Third(_) => "3.0",
+            Edition::Fourth(_) => "4.0",
+        })
     }
 }

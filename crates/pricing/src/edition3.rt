@@ -3,12 +3,9 @@ ghost use Rattle.std.specs.Prelude.{◌≡◌};
 ghost use Rattle.pricing.specs.Makeup.{third_makeup};
 ghost use Rattle.pricing.specs.Spills.{third_price, third_spill};
 
-use crate::makeup::plain_charge;
+use crate::makeup::Makeup;
 use crate::price_edition::PriceEdition;
-use crate::priced_energy::PricedEnergy;
-use crate::priced_rate::PricedRate;
-use crate::shortage::Shortage;
-use crate::spill::{is_tolerated, paid};
+use crate::spill::Spilled;
 use calendar::{Period, SpillSeason, TradingDay};
 use energy::Micropence;
 
@@ -21,26 +18,13 @@ impl PriceEdition for Edition3 {
 
     ghost makeup_charge = { λ _. third_makeup };
 
-    fn spill_amount(
-        &self,
-        day: TradingDay,
-        base: PricedEnergy,
-        nomination: PricedEnergy,
-        spill: PricedEnergy,
-    ) -> Micropence {
-        let price = spill_price(day.spill_season(), is_tolerated(spill, nomination));
-        paid(price, spill)
+    fn spill_amount(&self, day: TradingDay, spilled: Spilled) -> Micropence {
+        let within = spilled.is_tolerated(spilled.nomination);
+        spilled.paid_at(spill_price(day.spill_season(), within))
     }
 
-    fn makeup_charge(
-        &self,
-        day: TradingDay,
-        period: Period,
-        base: PricedEnergy,
-        rate: PricedRate,
-        shortage: Shortage,
-    ) -> Micropence {
-        plain_charge(rate, shortage)
+    fn makeup_charge(&self, day: TradingDay, period: Period, makeup: Makeup) -> Micropence {
+        makeup.plain_charge()
     }
 }
 

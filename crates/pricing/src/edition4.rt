@@ -4,12 +4,9 @@ ghost use Rattle.pricing.specs.Makeup.{fourth_makeup};
 ghost use Rattle.pricing.specs.Spills.{fourth_price, fourth_spill};
 
 use crate::factor::Factor;
-use crate::makeup::factored_charge;
+use crate::makeup::Makeup;
 use crate::price_edition::PriceEdition;
-use crate::priced_energy::PricedEnergy;
-use crate::priced_rate::PricedRate;
-use crate::shortage::Shortage;
-use crate::spill::{is_tolerated, paid};
+use crate::spill::Spilled;
 use calendar::{Period, TradingDay};
 use energy::Micropence;
 
@@ -22,25 +19,12 @@ impl PriceEdition for Edition4 {
 
     ghost makeup_charge = { λ _. fourth_makeup };
 
-    fn spill_amount(
-        &self,
-        day: TradingDay,
-        base: PricedEnergy,
-        nomination: PricedEnergy,
-        spill: PricedEnergy,
-    ) -> Micropence {
-        paid(spill_price(is_tolerated(spill, base)), spill)
+    fn spill_amount(&self, day: TradingDay, spilled: Spilled) -> Micropence {
+        spilled.paid_at(spill_price(spilled.is_tolerated(spilled.base)))
     }
 
-    fn makeup_charge(
-        &self,
-        day: TradingDay,
-        period: Period,
-        base: PricedEnergy,
-        rate: PricedRate,
-        shortage: Shortage,
-    ) -> Micropence {
-        factored_charge(Factor::of_period(day, period), base, rate, shortage)
+    fn makeup_charge(&self, day: TradingDay, period: Period, makeup: Makeup) -> Micropence {
+        makeup.factored_charge(Factor::of_period(day, period))
     }
 }
 

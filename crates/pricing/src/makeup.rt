@@ -1,46 +1,49 @@
-// What the editions need to price a shortage.
+// A shortage, and what the editions need to price it.
 ghost use Rattle.std.specs.Prelude.{◌≡◌, ◌*◌, ◌≤◌};
 ghost use Rattle.pricing.specs.Limits.{most_rate};
 ghost use Rattle.pricing.specs.Makeup.{plain_charge, factored_charge};
 
 use crate::factor::Factor;
-use crate::priced_energy::PricedEnergy;
-use crate::priced_rate::PricedRate;
-use crate::shortage::Shortage;
+use crate::limited::{PricedEnergy, PricedRate, Shortage};
 use energy::Micropence;
 
-/// Every kWh at the plain rate.
-pub(crate) fn plain_charge(rate: PricedRate, shortage: Shortage) -> Micropence
-    ensures { result ≡ plain_charge rate.rate shortage.energy }
-{
-    Micropence(at_rate(1000 * shortage.energy.0, rate))
+/// A shortage, with the base and the makeup rate that it is charged by.
+#[derive(Clone, Copy, PartialEq, Eq, Debug)]
+pub struct Makeup {
+    pub base: PricedEnergy,
+    pub rate: PricedRate,
+    pub shortage: Shortage,
 }
 
-/// The plain rate up to 15 parts in 100 of the base, and the rate times the factor beyond.
-pub(crate) fn factored_charge(
-    factor: Factor,
-    base: PricedEnergy,
-    rate: PricedRate,
-    shortage: Shortage,
-) -> Micropence
-    ensures { result ≡ factored_charge factor.tenths base.energy rate.rate shortage.energy }
-{
-    let plain = 15 * base.energy.0;
-    let short = 100 * shortage.energy.0;
-    if short <= plain {
-        return plain_charge(rate, shortage);
+impl Makeup {
+    /// Every kWh at the plain rate.
+    pub(crate) fn plain_charge(self) -> Micropence
+        ensures { result ≡ plain_charge self.rate.amount self.shortage.amount }
+    {
+        Micropence(self.at_rate(1000 * self.shortage.amount.0))
     }
-    let raised = at_factor(short - plain, factor);
-    Micropence(at_rate(150 * base.energy.0, rate) + at_rate(raised, rate))
-}
 
-/// So many times the rate.
-fn at_rate(count: u64, rate: PricedRate) -> u64
-    requires { count ≤ 1000000000000 }
-    ensures value { result ≡ count * rate.rate.0 }
-    ensures bound { result ≤ most_rate * count }
-{
-    count * rate.rate.0
+    /// The plain rate up to 15 parts in 100 of the base, and the rate times the factor beyond.
+    pub(crate) fn factored_charge(self, factor: Factor) -> Micropence
+        ensures { result ≡ factored_charge factor.tenths self.base.amount self.rate.amount self.shortage.amount }
+    {
+        let plain = 15 * self.base.amount.0;
+        let short = 100 * self.shortage.amount.0;
+        if short <= plain {
+            return self.plain_charge();
+        }
+        let raised = at_factor(short - plain, factor);
+        Micropence(self.at_rate(150 * self.base.amount.0) + self.at_rate(raised))
+    }
+
+    /// So many times the rate.
+    fn at_rate(self, count: u64) -> u64
+        requires { count ≤ 1000000000000 }
+        ensures value { result ≡ count * self.rate.amount.0 }
+        ensures bound { result ≤ most_rate * count }
+    {
+        count * self.rate.amount.0
+    }
 }
 
 /// So many times the tenths of the factor.

@@ -6,9 +6,8 @@ ghost use Rattle.energy.specs.declared.unit.Kwh.{Kwh};
 ghost use Rattle.energy.specs.declared.unit.Micropence.{Micropence};
 ghost use Rattle.energy.specs.declared.unit.Rate.{Rate};
 
-use crate::priced_energy::PricedEnergy;
-use crate::priced_rate::PricedRate;
-use crate::shortage::Shortage;
+use crate::makeup::Makeup;
+use crate::spill::Spilled;
 use calendar::{Period, TradingDay};
 use energy::{Kwh, Micropence, Rate};
 
@@ -21,23 +20,10 @@ pub trait PriceEdition {
     ghost makeup_charge: { Self → TradingDay → Period → Kwh → Rate → Kwh → Micropence };
 
     /// The amount paid for a spill.
-    fn spill_amount(
-        &self,
-        day: TradingDay,
-        base: PricedEnergy,
-        nomination: PricedEnergy,
-        spill: PricedEnergy,
-    ) -> Micropence
-        ensures { result ≡ spill_amount self.now day base.energy nomination.energy spill.energy };
+    fn spill_amount(&self, day: TradingDay, spilled: Spilled) -> Micropence
+        ensures { result ≡ spill_amount self.now day spilled.base.amount spilled.nomination.amount spilled.spill.amount };
 
     /// The charge for a shortage.
-    fn makeup_charge(
-        &self,
-        day: TradingDay,
-        period: Period,
-        base: PricedEnergy,
-        rate: PricedRate,
-        shortage: Shortage,
-    ) -> Micropence
-        ensures { result ≡ makeup_charge self.now day period base.energy rate.rate shortage.energy };
+    fn makeup_charge(&self, day: TradingDay, period: Period, makeup: Makeup) -> Micropence
+        ensures { result ≡ makeup_charge self.now day period makeup.base.amount makeup.rate.amount makeup.shortage.amount };
 }

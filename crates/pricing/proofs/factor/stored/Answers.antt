@@ -1,4 +1,4 @@
-use Rattle.std.proofs.Common.{ℕ, ◌-◌, ◌≤◌, sym, subst, arith}
+use Rattle.std.proofs.Common.{◌-◌, arith}
 use Rattle.pricing.proofs.Tables.{tabulated_at, factor_range}
 use Rattle.pricing.proofs.factor.stored.Goals as goal
 
@@ -8,8 +8,4 @@ returns c =
     let range = factor_range c.args.column row.number row.first row.last in
     let value =
     tabulated_at (c.number.result - 1) row.number c.place.result c.args.column (omega arith) (omega arith) c.place.ensures in
-    record {
-      value = value;
-      least = subst (λ (n : ℕ). 10 ≤ n) (sym value) range.0;
-      most = subst (λ (n : ℕ). n ≤ 15) (sym value) range.1;
-    }
+    record { value = value; least = omega (arith, value, range.0); most = omega (arith, value, range.1) }

@@ -8,12 +8,8 @@ either_way : EitherWay
 either_way (pos n) = (inr refl, omega (arith, ints))
 either_way (negsuc n) = (inl refl, omega (arith, ints))
 
-pub returns : goal.returns
-returns c =
-    record {
-      factor_range = factor_range;
-      either_way = either_way;
-      worked_spills = λ t nominated. (refl, refl);
-      worked_charges = (refl, refl, refl);
-      worked_october = (refl, refl, refl);
-    }
+pub returns-clause-factor_range : goal.returns-clause-factor_range
+returns-clause-factor_range c = factor_range
+
+pub returns-clause-either_way : goal.returns-clause-either_way
+returns-clause-either_way c = either_way
