@@ -1,18 +1,13 @@
 -- Books: the rows in use, and the entries among them.
-use Rattle.std.specs.Prelude.{ℕ, ◌+◌, ◌-◌, min, Bool, cond, not, ◌&&◌, List, [], ◌∷◌, length, drop, Some, None, Ok, Err, Option, Result, nat_lt, slice_set}
-use Rattle.std.specs.List.{prefix_len}
+use Rattle.std.specs.Prelude.{ℕ, ◌+◌, ◌-◌, min, Bool, cond, ◌&&◌, List, [], ◌∷◌, length, drop, Some, None, Ok, Err, Option, Result, nat_lt, slice_set, position}
 
 -- A row that passes its check stands for an entry, and any other for none.
 abbrev pub checked : {R : Type 0} → (R → Bool) → R → Option R
 checked fits x = cond (fits x) (Some x) None
 
--- The first place in a list at which a test passes.
-abbrev pub first_place : {R : Type 0} → (R → Bool) → List R → Option ℕ
-first_place test xs = cond (nat_lt (prefix_len (λ x. not (test x)) xs) (length xs)) (Some (prefix_len (λ x. not (test x)) xs)) None
-
 -- Where the first entry under a key stands: rows that fail the check are passed over.
 abbrev pub place_under : {R K : Type 0} → (R → Bool) → (R → K → Bool) → K → List R → Option ℕ
-place_under fits keyed k xs = first_place (λ x. fits x && keyed x k) xs
+place_under fits keyed k xs = position (λ x. fits x && keyed x k) xs
 
 -- A book takes as many rows as it is long, and at most those of its kind.
 abbrev pub space_left : {R : Type 0} → ℕ → List R → ℕ → ℕ

@@ -25,6 +25,10 @@ same_kind Match Trade = false
 same_kind Match Match = true
 
 -- A key is filer, kind, period and both parties: all but the amounts and the flag.
+abbrev pub filed_key : FiledRow → FiledKey
+filed_key x = record { filer = x.filer; kind = x.kind; period = x.period; north = x.north; south = x.south }
+
+-- A row is under a key that agrees with it on all five.
 abbrev pub filed_under : FiledRow → FiledKey → Bool
 filed_under x k =
     (x.period == k.period && (x.north == k.north && x.south == k.south))

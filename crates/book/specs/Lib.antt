@@ -1,7 +1,6 @@
 pub mod Books
 pub mod Faults
 pub mod Figures
-pub mod FiledEntries
 pub mod FiledRows
+pub mod InUse
 pub mod ReadingRows
-pub mod Readings

@@ -14,6 +14,10 @@ abbrev pub reading_fit : ReadingRow → Bool
 reading_fit x = nat_le x.party 15 && (nat_le x.local.0 9999999 && (nat_le x.plg.0 9999999 && within_limit x.demand))
 
 -- A key is party and period.
+abbrev pub reading_key : ReadingRow → ReadingKey
+reading_key x = record { party = x.party; period = x.period }
+
+-- A row is under a key that agrees with it on both.
 abbrev pub reading_under : ReadingRow → ReadingKey → Bool
 reading_under x k = x.party == k.party && x.period == k.period
 

@@ -1,51 +1,42 @@
 // Filed entries as a kind of row of a book.
-ghost use Rattle.book.specs.FiledRows.{filed_fit, filed_under, filed_most};
-ghost use Rattle.book.specs.FiledEntries.{filed_written};
+ghost use Rattle.std.proofs.Common.{rules};
+ghost use Rattle.book.specs.FiledRows.{filed_fit, filed_key, filed_under, filed_most};
 
-use crate::filed_entry::FiledEntry;
+use crate::entry::Entry;
 use crate::filed_row::{FiledKey, FiledRow};
 use crate::row::Row;
+
+/// What one party filed of its trade or match with another in one period. No entry has a party number
+/// above 15 or an amount above 9,999,999 kWh.
+pub type FiledEntry = Entry<FiledRow>;
 
 impl Row for FiledRow {
     type Key = FiledKey;
 
-    type Entry = FiledEntry;
+    const MOST: usize = 4_096;
 
     ghost fit = { filed_fit };
 
+    ghost key_of = { filed_key };
+
     ghost under = { filed_under };
 
-    ghost written = { filed_written };
+    ghost MOST = { filed_most };
 
-    ghost most = { filed_most };
+    ghost keyed = { Prim.search rules };
 
-    ghost sound = { λ e. e.sound };
-
-    fn entry(&self) -> Option<FiledEntry> {
-        if self.passes() {
-            Some(FiledEntry { row: *self })
-        } else {
-            None
-        }
-    }
-
-    fn of(entry: FiledEntry) -> FiledRow {
-        entry.row
-    }
-
+    // The check is the row's own method, which is asked without the trait too.
     fn is_fit(&self) -> bool {
         self.passes()
     }
 
-    fn is_under(&self, key: &FiledKey) -> bool {
-        self.filer == key.filer
-            && self.kind == key.kind
-            && self.period == key.period
-            && self.north == key.north
-            && self.south == key.south
-    }
-
-    fn most_rows() -> usize {
-        4_096
+    fn key(&self) -> FiledKey {
+        FiledKey {
+            filer: self.filer,
+            kind: self.kind,
+            period: self.period,
+            north: self.north,
+            south: self.south,
+        }
     }
 }

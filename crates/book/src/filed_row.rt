@@ -21,6 +21,7 @@ pub enum FiledKind {
 }
 
 /// A plain row; its flag says nothing where it is a match.
+// Kind and flag stand apart, and the key's fields among the others, since callers write and read each by name.
 #[derive(Clone, Copy)]
 pub struct FiledRow {
     pub filer: Side,
@@ -34,7 +35,7 @@ pub struct FiledRow {
 }
 
 /// All of a row but its amounts and flag.
-#[derive(Clone, Copy)]
+#[derive(Clone, Copy, PartialEq, Eq, Debug)]
 pub struct FiledKey {
     pub filer: Side,
     pub kind: FiledKind,
@@ -50,7 +51,7 @@ impl FiledRow {
     {
         self.north <= LAST_PARTY
             && self.south <= LAST_PARTY
-            && self.ns.0 <= MOST_KWH
-            && self.sn.0 <= MOST_KWH
+            && self.ns <= MOST_KWH
+            && self.sn <= MOST_KWH
     }
 }

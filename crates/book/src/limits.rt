@@ -1,7 +1,9 @@
 // The limits that every kind of entry keeps.
 
+use energy::Kwh;
+
 /// Parties of a side are numbered from 0, and there are at most 16.
 pub const LAST_PARTY: u8 = 15;
 
 /// The most that one amount can be.
-pub const MOST_KWH: u64 = 9_999_999;
+pub const MOST_KWH: Kwh = Kwh(9_999_999);

@@ -1,47 +1,39 @@
 // Readings as a kind of row of a book.
-ghost use Rattle.book.specs.ReadingRows.{reading_fit, reading_under, reading_most};
-ghost use Rattle.book.specs.Readings.{reading_written};
+ghost use Rattle.std.proofs.Common.{rules};
+ghost use Rattle.book.specs.ReadingRows.{reading_fit, reading_key, reading_under, reading_most};
 
-use crate::reading::Reading;
+use crate::entry::Entry;
 use crate::reading_row::{ReadingKey, ReadingRow};
 use crate::row::Row;
+
+/// A supplier's local nomination, PLG output and actual demand in one period. No reading has a party
+/// number above 15 or an amount above 9,999,999 kWh.
+pub type Reading = Entry<ReadingRow>;
 
 impl Row for ReadingRow {
     type Key = ReadingKey;
 
-    type Entry = Reading;
+    const MOST: usize = 800;
 
     ghost fit = { reading_fit };
 
+    ghost key_of = { reading_key };
+
     ghost under = { reading_under };
 
-    ghost written = { reading_written };
+    ghost MOST = { reading_most };
 
-    ghost most = { reading_most };
+    ghost keyed = { Prim.search rules };
 
-    ghost sound = { λ e. e.sound };
-
-    fn entry(&self) -> Option<Reading> {
-        if self.passes() {
-            Some(Reading { row: *self })
-        } else {
-            None
-        }
-    }
-
-    fn of(entry: Reading) -> ReadingRow {
-        entry.row
-    }
-
+    // The check is the row's own method, which is asked without the trait too.
     fn is_fit(&self) -> bool {
         self.passes()
     }
 
-    fn is_under(&self, key: &ReadingKey) -> bool {
-        self.party == key.party && self.period == key.period
-    }
-
-    fn most_rows() -> usize {
-        800
+    fn key(&self) -> ReadingKey {
+        ReadingKey {
+            party: self.party,
+            period: self.period,
+        }
     }
 }

@@ -16,7 +16,7 @@ pub struct ReadingRow {
 }
 
 /// A reading is under its party and period.
-#[derive(Clone, Copy)]
+#[derive(Clone, Copy, PartialEq, Eq, Debug)]
 pub struct ReadingKey {
     pub party: u8,
     pub period: u8,
@@ -27,13 +27,9 @@ impl ReadingRow {
     pub fn passes(&self) -> bool
         ensures { result ≡ reading_fit self.now }
     {
-        let demand = match self.demand {
-            Some(given) => given.0,
-            None => 0,
-        };
         self.party <= LAST_PARTY
-            && self.local.0 <= MOST_KWH
-            && self.plg.0 <= MOST_KWH
-            && demand <= MOST_KWH
+            && self.local <= MOST_KWH
+            && self.plg <= MOST_KWH
+            && self.demand.is_none_or(|given| given <= MOST_KWH)
     }
 }

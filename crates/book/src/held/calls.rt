@@ -1,10 +1,12 @@
 // What a book can be asked.
-ghost use Rattle.std.specs.Prelude.{◌≡◌, ◌+◌, min, length, take, count_by};
+ghost use Rattle.std.specs.Prelude.{◌≡◌, min, length, count_by};
 ghost use Rattle.std.specs.Option.{option_map};
 ghost use Rattle.energy.specs.Totals.{within64, sum_of};
 ghost use Rattle.book.specs.Books.{place_under, space_left, entry_at, added, changed};
 ghost use Rattle.book.specs.Faults.{no_space, not_there};
+ghost use Rattle.book.specs.InUse.{in_use};
 
+use crate::entry::Entry;
 use crate::fault::{BookFull, NotInUse};
 use crate::held::Book;
 use crate::row::Row;
@@ -25,61 +27,64 @@ impl<'a, R: Row> Book<'a, R> {
         }
     }
 
+    /// The rows in use.
+    fn in_use(&self) -> &[R]
+        ensures { result.now ≡ in_use self.now }
+    {
+        &self.rows[..self.used]
+    }
+
     /// How many entries there are.
     pub fn count(&self) -> usize
-        ensures { result ≡ count_by R.fit (take self.now.used self.now.rows.now) }
+        ensures { result ≡ count_by R.fit (in_use self.now) }
     {
-        count_entries(&self.rows[0..self.used])
+        count_entries(self.in_use())
     }
 
     /// How many entries more the book takes.
     pub fn space_left(&self) -> usize
-        ensures { result ≡ space_left R.most self.now.rows.now self.now.used }
+        ensures { result ≡ space_left R.MOST self.now.rows.now self.now.used }
     {
-        self.rows
-            .len()
-            .min(R::most_rows())
-            .saturating_sub(self.used)
+        self.rows.len().min(R::MOST).saturating_sub(self.used)
     }
 
     /// The place of the first entry under a key.
     pub fn find(&self, key: R::Key) -> Option<usize>
-        ensures { result ≡ place_under R.fit R.under key (take self.now.used self.now.rows.now) }
+        ensures { result ≡ place_under R.fit R.under key (in_use self.now) }
     {
-        find_row(&self.rows[0..self.used], &key)
+        find_row(self.in_use(), &key)
     }
 
     /// The entry at a place, if a row in use there stands for one.
-    pub fn entry(&self, at: usize) -> Option<R::Entry>
-        ensures { option_map R.written result ≡ entry_at R.fit at (take self.now.used self.now.rows.now) }
+    pub fn entry(&self, at: usize) -> Option<Entry<R>>
+        ensures { option_map (λ e. e.row) result ≡ entry_at R.fit at (in_use self.now) }
     {
-        entry_at(&self.rows[0..self.used], at)
+        entry_at(self.in_use(), at)
     }
 
     /// Adds an entry behind the rows in use.
-    pub fn add(&mut self, entry: R::Entry) -> Result<(), BookFull>
-        ensures answer { (self.new.rows.now, self.new.used, result) ≡ added R.most no_space self.old.rows.now self.old.used (R.written entry) }
+    pub fn add(&mut self, entry: Entry<R>) -> Result<(), BookFull>
+        ensures answer { (self.new.rows.now, self.new.used, result) ≡ added R.MOST no_space self.old.rows.now self.old.used entry.row }
         ensures lender { self.new.rows.ghost_name ≡ self.old.rows.ghost_name }
     {
         if self.space_left() == 0 {
             return Err(BookFull);
         }
-        let at = self.used;
-        self.rows[at] = R::of(entry);
-        self.used = at + 1;
+        self.rows[self.used] = entry.row();
+        self.used += 1;
         Ok(())
     }
 
     /// Puts an entry in the place of a row in use.
-    pub fn change(&mut self, at: usize, entry: R::Entry) -> Result<(), NotInUse>
-        ensures answer { (self.new.rows.now, result) ≡ changed not_there self.old.rows.now self.old.used at (R.written entry) }
+    pub fn change(&mut self, at: usize, entry: Entry<R>) -> Result<(), NotInUse>
+        ensures answer { (self.new.rows.now, result) ≡ changed not_there self.old.rows.now self.old.used at entry.row }
         ensures used { self.new.used ≡ self.old.used }
         ensures lender { self.new.rows.ghost_name ≡ self.old.rows.ghost_name }
     {
         if at >= self.used {
             return Err(NotInUse);
         }
-        self.rows[at] = R::of(entry);
+        self.rows[at] = entry.row();
         Ok(())
     }
 }
@@ -87,8 +92,8 @@ impl<'a, R: Row> Book<'a, R> {
 impl<'a, R: Row + EnergyFigure> Book<'a, R> {
     /// The sum of the figures of the entries, or none where it passes 64 bits.
     pub fn total(&self) -> Option<Kwh>
-        ensures { result ≡ within64 (sum_of R.figure (take self.now.used self.now.rows.now)) }
+        ensures { result ≡ within64 (sum_of R.figure (in_use self.now)) }
     {
-        total(&self.rows[0..self.used])
+        total(self.in_use())
     }
 }
