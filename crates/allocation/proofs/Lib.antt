@@ -1,10 +1,11 @@
 pub mod Awards
 pub mod Bounds
-pub mod Entitling
 pub mod Filling
 pub mod Flow
 pub mod Gathering
 pub mod Granting
+pub mod Making
 pub mod Sharing
+pub mod Summing
 pub mod Tabulating
 pub mod Validating

@@ -4,7 +4,9 @@ use Rattle.energy.specs.declared.unit.Mw.{Mw}
 use Rattle.energy.specs.Units.{mw}
 use Rattle.book.specs.declared.filed_row.FiledRow.{FiledRow}
 use Rattle.allocation.specs.Periods.{Period}
+use Rattle.allocation.specs.Told.{grid_at}
 use Rattle.allocation.specs.Trades.{valid_ns, valid_sn, valid_match}
+use Rattle.allocation.specs.declared.figures.Figures.{Figures}
 use Rattle.allocation.specs.declared.terms.PeriodTerms.{PeriodTerms}
 
 -- The capacity at a place of a list, none past its end.
@@ -25,6 +27,10 @@ period_with t ns_trades sn_trades valid = record {
   sn_ntc = t.sn_ntc;
   service = t.service;
 }
+
+-- A period with the trades and matches that the code holds.
+abbrev pub period_of : PeriodTerms → Figures → Period
+period_of t f = period_with t (grid_at f.ns) (grid_at f.sn) (grid_at f.matches)
 
 -- A period has the trades and matches that were validated.
 abbrev pub period_in : PeriodTerms → List FiledRow → ℕ → Period

@@ -29,8 +29,8 @@ figure_within g sending receiving i j = cond (nat_lt i sending && nat_lt j recei
 
 -- What is shown of a direction.
 abbrev pub shown_in : Allocations → Direction → ℕ → ℕ → ℕ
-shown_in a NorthSouth i j = figure_within a.ns a.north a.south i j
-shown_in a SouthNorth i j = figure_within a.sn a.south a.north i j
+shown_in a NorthSouth i j = figure_within a.ns.grid a.ns.senders a.ns.receivers i j
+shown_in a SouthNorth i j = figure_within a.sn.grid a.sn.senders a.sn.receivers i j
 
 -- What is allocated to registered parties, and nil to others.
 abbrev pub allocated_in : Rule → Period → Direction → ℕ → ℕ → ℕ

@@ -1,5 +1,5 @@
 -- One direction of a period as the code holds it, and the limits that it keeps.
-use Rattle.std.specs.Prelude.{ℕ, ◌<◌, ◌≤◌}
+use Rattle.std.specs.Prelude.{ℕ, ◌≤◌}
 use Rattle.energy.specs.Grids.{figure_at}
 use Rattle.allocation.specs.Allocation.{traded, matched}
 use Rattle.allocation.specs.Periods.{Way}
@@ -26,4 +26,4 @@ pub record Sound (w : Way) : Type 0 where
   pub matches : (i j : ℕ) → w.matches i j ≤ 9999999
   pub entitled : (i : ℕ) → w.entitlement i ≤ 79992000
   pub capacity : w.ntc ≤ 2147483647500
-  pub fits : (i : ℕ) → i < w.senders → matched w i ≤ traded w i
+  pub fits : (i : ℕ) → matched w i ≤ traded w i

@@ -1,5 +1,6 @@
 -- The terms of a period.
-use Rattle.std.specs.Prelude.{ℕ, Bool, true, cond, ◌&&◌, List, [], ◌∷◌, Some, None, Option, nat_le}
+use Rattle.std.specs.Prelude.{ℕ, Bool, cond, ◌&&◌, List, Some, None, Option, nat_le}
+use Rattle.std.specs.List.{list_all}
 use Rattle.energy.specs.declared.unit.Mw.{Mw}
 use Rattle.allocation.specs.declared.terms.PeriodTerms.{PeriodTerms}
 
@@ -22,8 +23,7 @@ terms_in t = terms_with t.north t.south t.northern t.southern t.ns_ntc t.sn_ntc 
 
 -- Each entitlement is at most 159,984 MW.
 abbrev pub all_within : List Mw → Bool
-all_within [] = true
-all_within (m ∷ ms) = nat_le m.0 159984 && all_within ms
+all_within = list_all (λ m. nat_le m.0 159984)
 
 -- Terms stand where a side has at most 16 parties, a net transfer capacity is at most 9,999 MW and each entitlement is
 -- within its limit.

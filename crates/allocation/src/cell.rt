@@ -3,53 +3,28 @@ ghost use Rattle.std.specs.Prelude.{◌≡◌};
 ghost use Rattle.allocation.specs.Cells.{put};
 
 use book::{FiledKind, FiledRow};
-use energy::{Kwh, Side};
-
-/// The amounts of one filing, nil where nothing was filed.
-#[derive(Clone, Copy)]
-pub struct Amounts {
-    pub ns: Kwh,
-    pub sn: Kwh,
-}
+use energy::Side;
 
 /// The filings of a Northern and a Southern party: a trade and a match by each.
-#[derive(Clone, Copy)]
+#[derive(Clone, Copy, Default)]
 pub struct Cell {
-    pub north_trade: Amounts,
-    pub south_trade: Amounts,
-    pub north_match: Amounts,
-    pub south_match: Amounts,
+    pub north_trade: Option<FiledRow>,
+    pub south_trade: Option<FiledRow>,
+    pub north_match: Option<FiledRow>,
+    pub south_match: Option<FiledRow>,
 }
 
-/// Nothing filed.
-pub const NOTHING: Amounts = Amounts {
-    ns: Kwh(0),
-    sn: Kwh(0),
-};
-
-/// No filing by either.
-pub const EMPTY: Cell = Cell {
-    north_trade: NOTHING,
-    south_trade: NOTHING,
-    north_match: NOTHING,
-    south_match: NOTHING,
-};
-
 impl Cell {
-    /// The cell with a row's amounts in the row's place.
-    pub fn with(self, row: &FiledRow) -> Cell
-        ensures { result ≡ put row.now self }
+    /// The cell with a row in its place.
+    pub fn with(self, row: FiledRow) -> Cell
+        ensures { result ≡ put row self }
     {
-        let amounts = Amounts {
-            ns: row.ns,
-            sn: row.sn,
-        };
         let mut cell = self;
         match (row.kind, row.filer) {
-            (FiledKind::Trade, Side::Northern) => cell.north_trade = amounts,
-            (FiledKind::Trade, Side::Southern) => cell.south_trade = amounts,
-            (FiledKind::Match, Side::Northern) => cell.north_match = amounts,
-            (FiledKind::Match, Side::Southern) => cell.south_match = amounts,
+            (FiledKind::Trade, Side::Northern) => cell.north_trade = Some(row),
+            (FiledKind::Trade, Side::Southern) => cell.south_trade = Some(row),
+            (FiledKind::Match, Side::Northern) => cell.north_match = Some(row),
+            (FiledKind::Match, Side::Southern) => cell.south_match = Some(row),
         }
         cell
     }

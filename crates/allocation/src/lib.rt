@@ -5,13 +5,13 @@ ghost use Rattle.allocation.specs.Laws.{LawOfFlow, FlowsMeet};
 
 mod allocating;
 mod cell;
+mod cut;
 mod figures;
 mod grid;
 mod matching;
 mod share;
 mod shown;
 mod square;
-mod steps;
 mod table;
 mod tabling;
 mod terms;

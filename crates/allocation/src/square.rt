@@ -1,46 +1,50 @@
 // Figures by sender and receiver, 16 by 16.
-ghost use Rattle.std.specs.Prelude.{◌≡◌, ℕ, ◌<◌, ◌≤◌};
-ghost use Rattle.energy.specs.Grids.{figure_at, sum_to};
-ghost use Rattle.allocation.specs.Told.{grid_at};
+ghost use Rattle.std.specs.Prelude.{◌≡◌, ℕ, ◌^◌, ◌<◌, ◌≤◌, ◌⊎◌};
+ghost use Rattle.energy.specs.Grids.{figure_at};
+ghost use Rattle.energy.specs.Totals.{sum_kwh};
+ghost use Rattle.energy.specs.Units.{kwh};
+ghost use Rattle.allocation.specs.Told.{grid_at, Within16};
 
-use energy::Kwh;
+use energy::{Kwh, total};
+use std::array;
 
 /// Figures by sender and receiver.
 pub type Square = [[Kwh; 16]; 16];
 
+/// The square of what a function gives for each place.
+pub fn square_of<F: Fn(usize, usize) -> Kwh>(figure: F) -> Square
+    requires { (i j : ℕ) → i < 16 → j < 16 → F.pre figure i j }
+    ensures inside { (i j : ℕ) → i < 16 → j < 16 → F.post figure i j (kwh (grid_at result i j)) }
+    ensures outside { (i j : ℕ) → (16 ≤ i) ⊎ (16 ≤ j) → grid_at result i j ≡ 0 }
+{
+    array::from_fn(
+        |i|
+            requires { (j : ℕ) → j < 16 → F.pre figure i j }
+            ensures inside { (j : ℕ) → j < 16 → F.post figure i j (kwh (figure_at result j)) }
+            ensures outside { (j : ℕ) → 16 ≤ j → figure_at result j ≡ 0 }
+        {
+            array::from_fn(
+                |j|
+                    requires { F.pre figure i j }
+                    ensures { F.post figure i j result }
+                { figure(i, j) },
+            )
+        },
+    )
+}
+
 /// The figures with senders and receivers exchanged.
 pub fn transposed(grid: &Square) -> Square
-    requires outside { (i j : ℕ) → 16 ≤ j → grid_at grid.now i j ≡ 0 }
+    requires outside { Within16 (grid_at grid.now) }
     ensures { grid_at result ≡ (λ (i j : ℕ). grid_at grid.now j i) }
 {
-    let mut out = [[Kwh(0); 16]; 16];
-    for i in 0..16 {
-        out[i] = column(grid, i);
-    }
-    out
+    square_of(|i, j| grid[j][i])
 }
 
-/// The figures of one receiver.
-fn column(grid: &Square, j: usize) -> [Kwh; 16]
-    requires { j < 16 }
-    ensures { figure_at result ≡ (λ (i : ℕ). grid_at grid.now i j) }
+/// The sum of figures that are few and small.
+pub fn sum_of(row: &[Kwh]) -> Kwh
+    requires { sum_kwh row.now < 2 ^ 64 }
+    ensures { result.0 ≡ sum_kwh row.now }
 {
-    let mut out = [Kwh(0); 16];
-    for i in 0..16 {
-        out[i] = grid[i][j];
-    }
-    out
-}
-
-/// The sum of the first n figures of a row.
-pub fn sum_of(row: &[Kwh; 16], n: usize) -> u64
-    requires few { n ≤ 16 }
-    requires small { (k : ℕ) → k < n → figure_at row.now k ≤ 159999984 }
-    ensures { result ≡ sum_to n (figure_at row.now) }
-{
-    let mut sum = 0;
-    for i in 0..n {
-        sum += row[i].0;
-    }
-    sum
+    total(row).unwrap()
 }

@@ -10,6 +10,7 @@ mod calls;
 /// How many parties each side has, what each is entitled to, the net transfer capacity of each direction
 /// and whether the link is in service. A side has at most 16 parties, an entitlement is at most 159,984 MW
 /// and a net transfer capacity at most 9,999 MW.
+// Arrays beside their counts: the terms are Copy, and an ArrayVec is not.
 #[derive(Clone, Copy)]
 pub struct PeriodTerms {
     pub(crate) north: usize,

@@ -1,64 +1,52 @@
-// The figures of a period by Northern and Southern party.
-ghost use Rattle.std.specs.Prelude.{◌≡◌, ℕ, [], slice_index_or};
-ghost use Rattle.energy.specs.Grids.{figure_at};
-ghost use Rattle.allocation.specs.Cells.{cell_of};
-ghost use Rattle.allocation.specs.Grids.{cell_in};
-ghost use Rattle.allocation.specs.Told.{told_in, grid_at, both};
+// What the filings of two parties tell of them: the validated trades and the agreed match.
+ghost use Rattle.std.specs.Prelude.{◌≡◌};
+ghost use Rattle.std.specs.Option.{option_map};
+ghost use Rattle.allocation.specs.Told.{told_ns, told_sn, told_match};
+ghost use Rattle.allocation.specs.Trades.{alike};
 
 use crate::cell::Cell;
 use energy::Kwh;
 
-/// What a cell is asked for: the validated trade of a direction, or the agreed match.
-#[derive(Clone, Copy)]
-pub enum Told {
-    Ns,
-    Sn,
-    Agreed,
-}
+// A method for each direction: one that took the amount as a closure would have to tell what the closure answers.
+impl Cell {
+    /// The validated trade from North to South.
+    pub fn ns_trade(&self) -> Kwh
+        ensures { result.0 ≡ told_ns self.now }
+    {
+        alike(
+            self.north_trade.map(|row| row.ns),
+            self.south_trade.map(|row| row.ns),
+        )
+    }
 
-/// What a cell tells.
-pub fn told_of(what: Told, cell: &Cell) -> Kwh
-    ensures { result.0 ≡ told_in what cell.now }
-{
-    match what {
-        Told::Ns => same(cell.north_trade.ns, cell.south_trade.ns),
-        Told::Sn => same(cell.north_trade.sn, cell.south_trade.sn),
-        Told::Agreed => {
-            let one = cell.north_match;
-            let other = cell.south_match;
-            if one.ns.0 == one.sn.0 && one.ns.0 == other.ns.0 && one.ns.0 == other.sn.0 {
-                one.ns
-            } else {
-                Kwh(0)
-            }
+    /// The validated trade from South to North.
+    pub fn sn_trade(&self) -> Kwh
+        ensures { result.0 ≡ told_sn self.now }
+    {
+        alike(
+            self.north_trade.map(|row| row.sn),
+            self.south_trade.map(|row| row.sn),
+        )
+    }
+
+    /// The agreed match.
+    pub fn agreed_match(&self) -> Kwh
+        ensures { result.0 ≡ told_match self.now }
+    {
+        match (self.north_match, self.south_match) {
+            (Some(one), Some(other))
+                if one.ns == one.sn && one.ns == other.ns && one.ns == other.sn => one.ns,
+            _ => Kwh(0),
         }
     }
 }
 
-fn same(one: Kwh, other: Kwh) -> Kwh
-    ensures { result.0 ≡ both one.0 other.0 }
+/// What both filed alike, and nil where one filed alone or they filed differently.
+fn alike(one: Option<Kwh>, other: Option<Kwh>) -> Kwh
+    ensures { result.0 ≡ alike (option_map (λ e. e.0) one) (option_map (λ e. e.0) other) }
 {
-    if one.0 == other.0 { one } else { Kwh(0) }
-}
-
-/// What the cells of one Northern party tell.
-fn told_row(what: Told, cells: &[Cell; 16]) -> [Kwh; 16]
-    ensures { figure_at result ≡ (λ (s : ℕ). told_in what (slice_index_or cells.now s (cell_of [] 0 0 0))) }
-{
-    let mut out = [Kwh(0); 16];
-    for s in 0..16 {
-        out[s] = told_of(what, &cells[s]);
+    match (one, other) {
+        (Some(one), Some(other)) if one == other => one,
+        _ => Kwh(0),
     }
-    out
-}
-
-/// What all cells tell.
-pub fn told_grid(what: Told, cells: &[[Cell; 16]; 16]) -> [[Kwh; 16]; 16]
-    ensures { grid_at result ≡ (λ (n s : ℕ). told_in what (cell_in cells.now n s)) }
-{
-    let mut out = [[Kwh(0); 16]; 16];
-    for n in 0..16 {
-        out[n] = told_row(what, &cells[n]);
-    }
-    out
 }

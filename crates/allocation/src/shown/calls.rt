@@ -1,9 +1,8 @@
 // What the allocations of a period can be asked.
-ghost use Rattle.std.specs.Prelude.{◌≡◌, ◌≤◌};
+ghost use Rattle.std.specs.Prelude.{◌≡◌};
 ghost use Rattle.allocation.specs.Shown.{shown_in, figure_within};
 
-use crate::shown::Allocations;
-use crate::square::Square;
+use crate::shown::{Allocations, WayAllocations};
 use energy::{Direction, Kwh};
 
 impl Allocations {
@@ -12,21 +11,21 @@ impl Allocations {
         ensures { result.0 ≡ shown_in self.now direction sender receiver }
     {
         match direction {
-            Direction::NorthSouth => figure_in(&self.ns, sender, receiver, self.north, self.south),
-            Direction::SouthNorth => figure_in(&self.sn, sender, receiver, self.south, self.north),
+            Direction::NorthSouth => self.ns.kwh(sender, receiver),
+            Direction::SouthNorth => self.sn.kwh(sender, receiver),
         }
     }
 }
 
-/// The figure at a place, nil outside the first so many senders and receivers.
-fn figure_in(grid: &Square, i: usize, j: usize, senders: usize, receivers: usize) -> Kwh
-    requires sending { senders ≤ 16 }
-    requires receiving { receivers ≤ 16 }
-    ensures { result.0 ≡ figure_within grid.now senders receivers i j }
-{
-    if i < senders && j < receivers {
-        grid[i][j]
-    } else {
-        Kwh(0)
+impl WayAllocations {
+    /// The figure of a sender and a receiver, nil where either is not registered.
+    fn kwh(&self, sender: usize, receiver: usize) -> Kwh
+        ensures { result.0 ≡ figure_within self.now.grid self.now.senders self.now.receivers sender receiver }
+    {
+        if sender < self.senders && receiver < self.receivers {
+            self.grid[sender][receiver]
+        } else {
+            Kwh(0)
+        }
     }
 }

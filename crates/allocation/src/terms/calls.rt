@@ -8,10 +8,10 @@ use energy::Mw;
 
 const MOST_PARTIES: usize = 16;
 
-const LARGEST_NTC: u32 = 9_999;
+const LARGEST_NTC: Mw = Mw(9_999);
 
 /// What sixteen contracts of 9,999 MW can give to one party.
-const LARGEST_ENTITLEMENT: u32 = 159_984;
+const LARGEST_ENTITLEMENT: Mw = Mw(159_984);
 
 impl PeriodTerms {
     /// The terms with these figures, where they are within the limits.
@@ -28,12 +28,11 @@ impl PeriodTerms {
     {
         if north > MOST_PARTIES
             || south > MOST_PARTIES
-            || ns_ntc.0 > LARGEST_NTC
-            || sn_ntc.0 > LARGEST_NTC
+            || ns_ntc > LARGEST_NTC
+            || sn_ntc > LARGEST_NTC
+            || !all_within(&northern)
+            || !all_within(&southern)
         {
-            return None;
-        }
-        if !all_within(&northern) || !all_within(&southern) {
             return None;
         }
         Some(PeriodTerms {
@@ -52,10 +51,7 @@ impl PeriodTerms {
 fn all_within(entitlements: &[Mw; 16]) -> bool
     ensures { result ≡ all_within entitlements.now }
 {
-    for entitlement in entitlements {
-        if entitlement.0 > LARGEST_ENTITLEMENT {
-            return false;
-        }
-    }
-    true
+    entitlements
+        .iter()
+        .all(|&entitlement| entitlement <= LARGEST_ENTITLEMENT)
 }

@@ -4,7 +4,7 @@ use Rattle.energy.proofs.Grids.{sum_to_le}
 use Rattle.allocation.specs.Allocation.{traded, matched}
 use Rattle.allocation.specs.Tables.{way_of}
 use Rattle.allocation.specs.declared.allocating.Treatment.TheVariants.{Nil, Cut, Whole}
-use Rattle.allocation.proofs.Bounds.{volume_small}
+use Rattle.allocation.proofs.Bounds.{sound_table, volume_small}
 use Rattle.allocation.proofs.Filling.{nil_square}
 use Rattle.allocation.proofs.allocating.allocate_way.Goals as goal
 
@@ -18,12 +18,11 @@ pub returns-in-Nil : goal.returns-in-Nil
 returns-in-Nil g c i j hi hj = nil_square i j ∙ sym (cond-false c.args.service _ 0 (off c.args.service _ c.in-Nil.ensures))
 
 -- matches count alike on both sides, so that those of the senders stay within the trade against them
-pub ration_table-requires : goal.ration_table-requires
-ration_table-requires g c =
-    let v = way_of c.args.facing.now in
-    let against = c.volume_of-against.ensures in
+pub invariant_of-allocations : goal.invariant_of-allocations
+invariant_of-allocations g c =
+    let t = c.args.facing.now in
+    let v = way_of t in
     record {
-      sound = c.requires.sound;
-      covered = omega (arith, c.requires.exchanged, sum_to_le v.senders (matched v) (traded v) c.requires.facingsound.fits);
-      small = omega (arith, volume_small v c.requires.facingsound);
+      covered = omega (arith, c.requires, c.volume-against.ensures, sum_to_le v.senders (matched v) (traded v) (λ i _. t.fits i));
+      small = omega (arith, c.volume-against.ensures, volume_small v (sound_table t));
     }

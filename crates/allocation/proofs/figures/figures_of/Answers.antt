@@ -1,57 +1,48 @@
-use Rattle.std.proofs.Common.{◌≡◌, ℕ, ◌≤◌, leb, ap, ◌∙◌, inr, arith}
+use Rattle.std.proofs.Common.{◌≡◌, ℕ, ◌<◌, ◌≤◌, false, cond, ◌&&◌, leb, get_or, sym, ap, ◌∙◌, inr}
 use Rattle.energy.specs.Grids.{sum_to}
 use Rattle.allocation.specs.Told.{grid_at}
-use Rattle.allocation.specs.Trades.{agreed}
-use Rattle.allocation.specs.declared.told.Told.TheVariants.{Ns, Sn, Agreed}
 use Rattle.allocation.proofs.Filling.{pointwise}
-use Rattle.allocation.proofs.Validating.{read_off, valid_small, valid_outside, match_is}
+use Rattle.allocation.proofs.Validating.{ns_small, sn_small, agreed_small, trade_outside, agreed_outside, match_is}
 use Rattle.allocation.proofs.figures.figures_of.Goals as goal
 
-pub fitting-own-requires : goal.fitting-own-requires
-fitting-own-requires c =
-    let rows = c.args.rows.now in
-    let p = c.args.period in
-    let cells = c.filed_grid-cells.ensures in
-    record {
-      few = c.requires.southfew;
-      matches = pointwise (λ _ _ x. x ≤ 9999999) _ _ (read_off rows p Agreed _ _ c.told_grid-agreed.ensures cells) (valid_small rows p Agreed);
-      trades = pointwise (λ _ _ x. x ≤ 9999999) _ _ (read_off rows p Ns _ _ c.told_grid-ns.ensures cells) (valid_small rows p Ns);
-    }
+-- equal squares are equal with senders and receivers exchanged
+turned : {f g : ℕ → ℕ → ℕ} → f ≡ g → ◌≡◌ {A = ℕ → ℕ → ℕ} (λ i j. f j i) (λ i j. g j i)
+turned e = ap {B = ℕ → ℕ → ℕ} (λ (f : ℕ → ℕ → ℕ) (i j : ℕ). f j i) e
 
-pub facing_fits-facing-requires : goal.facing_fits-facing-requires
-facing_fits-facing-requires c =
-    let rows = c.args.rows.now in
-    let p = c.args.period in
-    let cells = c.filed_grid-cells.ensures in
-    let agree = read_off rows p Agreed _ _ c.told_grid-agreed.ensures cells in
-    let sn = read_off rows p Sn _ _ c.told_grid-sn.ensures cells in
-    record {
-      few = c.requires.northfew;
-      matches = pointwise (λ _ _ x. x ≤ 9999999) _ _ agree (valid_small rows p Agreed);
-      trades = pointwise (λ _ _ x. x ≤ 9999999) _ _ sn (valid_small rows p Sn);
-      nomatch = pointwise (λ _ j x. 16 ≤ j → x ≡ 0) _ _ agree (λ i j h. valid_outside rows p Agreed i j (inr (omega arith)));
-      notrade = pointwise (λ _ j x. 16 ≤ j → x ≡ 0) _ _ sn (λ i j h. valid_outside rows p Sn i j (inr (omega arith)));
-    }
+-- and of them the same matches fit
+fits_same : (n k : ℕ) {a b t u : ℕ → ℕ → ℕ} → a ≡ b → t ≡ u → leb (sum_to n (a k)) (sum_to n (t k)) ≡ leb (sum_to n (b k)) (sum_to n (u k))
+fits_same n k {a} {b} {t} {u} e d =
+    ap (λ (f : ℕ → ℕ → ℕ). leb (sum_to n (f k)) (sum_to n (t k))) e ∙ ap (λ (f : ℕ → ℕ → ℕ). leb (sum_to n (b k)) (sum_to n (f k))) d
 
-pub returns : goal.returns
-returns c =
+pub fitting-own-requires-clause-matches : goal.fitting-own-requires-clause-matches
+fitting-own-requires-clause-matches c = pointwise (λ _ _ x. x ≤ 9999999) _ _ c.told_figures-told.ensures.matches (agreed_small c.args.rows.now c.args.period)
+
+pub fitting-own-requires-clause-trades : goal.fitting-own-requires-clause-trades
+fitting-own-requires-clause-trades c = pointwise (λ _ _ x. x ≤ 9999999) _ _ c.told_figures-told.ensures.ns (ns_small c.args.rows.now c.args.period)
+
+pub transposed-requires : goal.transposed-requires
+transposed-requires c = record { outside = pointwise (λ _ j x. 16 ≤ j → x ≡ 0) _ _ c.told_figures-told.ensures.matches (λ i j h. agreed_outside c.args.rows.now c.args.period i j (inr h)) }
+
+pub transposed-requires-2 : goal.transposed-requires-2
+transposed-requires-2 c = record { outside = pointwise (λ _ j x. 16 ≤ j → x ≡ 0) _ _ c.told_figures-told.ensures.sn (λ i j h. trade_outside c.args.rows.now c.args.period (λ x. x.sn.0) i j (inr h)) }
+
+pub fitting-facing-requires-clause-matches : goal.fitting-facing-requires-clause-matches
+fitting-facing-requires-clause-matches c =
+    pointwise (λ _ _ x. x ≤ 9999999) _ _ (c.transposed.ensures ∙ turned c.told_figures-told.ensures.matches) (λ i j. agreed_small c.args.rows.now c.args.period j i)
+
+pub fitting-facing-requires-clause-trades : goal.fitting-facing-requires-clause-trades
+fitting-facing-requires-clause-trades c =
+    pointwise (λ _ _ x. x ≤ 9999999) _ _ (c.transposed-2.ensures ∙ turned c.told_figures-told.ensures.sn) (λ i j. sn_small c.args.rows.now c.args.period j i)
+
+pub returns-clause-matches : goal.returns-clause-matches
+returns-clause-matches c =
     let rows = c.args.rows.now in
     let p = c.args.period in
-    let north = c.args.north in
-    let south = c.args.south in
-    let cells = c.filed_grid-cells.ensures in
-    let ns = read_off rows p Ns _ _ c.told_grid-ns.ensures cells in
-    let sn = read_off rows p Sn _ _ c.told_grid-sn.ensures cells in
-    let agree = read_off rows p Agreed _ _ c.told_grid-agreed.ensures cells in
-    record {
-      ns = ns;
-      sn = sn;
-      matches = c.match_grid-matches.ensures
-          ∙ match_is rows p north south c.fitting-own.result c.facing_fits-facing.result (grid_at c.told_grid-agreed.result) agree
-          (λ k h. c.fitting-own.ensures k h
-          ∙ ap (λ (f : ℕ → ℕ → ℕ). leb (sum_to south (f k)) (sum_to south (grid_at c.told_grid-ns.result k))) agree
-          ∙ ap (λ (f : ℕ → ℕ → ℕ). leb (sum_to south (agreed rows p k)) (sum_to south (f k))) ns)
-          (λ k h. c.facing_fits-facing.ensures k h
-          ∙ ap (λ (f : ℕ → ℕ → ℕ). leb (sum_to north (λ n. f n k)) (sum_to north (λ n. grid_at c.told_grid-sn.result n k))) agree
-          ∙ ap (λ (f : ℕ → ℕ → ℕ). leb (sum_to north (λ n. agreed rows p n k)) (sum_to north (λ n. f n k))) sn);
-    }
+    let north = c.args.terms.now.north in
+    let south = c.args.terms.now.south in
+    let told = c.told_figures-told.ensures in
+    match_is rows p north south c.fitting-own.result c.fitting-facing.result (grid_at c.match_grid-matches.result)
+    (λ k h. c.fitting-own.ensures k h ∙ fits_same south k told.matches told.ns)
+    (λ k h. c.fitting-facing.ensures k h ∙ fits_same north k (c.transposed.ensures ∙ turned told.matches) (c.transposed-2.ensures ∙ turned told.sn))
+    (pointwise (λ i j x. i < 16 → j < 16 → grid_at c.match_grid-matches.result i j ≡ cond (get_or c.fitting-own.result i false && get_or c.fitting-facing.result j false) x 0) _ _ (sym told.matches) c.match_grid-matches.ensures.inside)
+    c.match_grid-matches.ensures.outside

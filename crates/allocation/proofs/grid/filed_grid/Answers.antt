@@ -1,45 +1,30 @@
-use Rattle.std.proofs.Common.{◌≡◌, ◌+◌, ◌-◌, ◌<◌, [], length, get_or, set, sym, subst, arith}
-use Rattle.std.proofs.lemmas.List.{get_or_default}
+use Rattle.std.proofs.Common.{◌≡◌, List, [], ◌∷◌, get_or, set, sym, ap, ◌∙◌, subst}
+use Rattle.std.proofs.lemmas.Iterator.Adapters.{YieldsList-from_rev_slice}
+use Rattle.std.proofs.lemmas.Iterator.Consumers.{YieldsList-at, YieldsList-end}
+use Rattle.std.proofs.lemmas.List.{reverse-reverse}
+use mathlib.Core.List.{reverse}
+use Rattle.book.specs.declared.filed_row.FiledRow.{FiledRow}
 use Rattle.allocation.specs.declared.cell.Cell.{Cell}
-use Rattle.allocation.proofs.Gathering.{Gathered, no_row, square_blank, gathered_blank, square_set, gathered_in, gathered_out, grid_is, standing_inside}
+use Rattle.allocation.proofs.Gathering.{Gathered, seen, seen_more, square_blank, gathered_blank, square_set, gathered_in, grid_is}
 use Rattle.allocation.proofs.grid.filed_grid.Goals as goal
 
-pub loop-k-init : goal.loop-k-init
-loop-k-init c = (square_blank, omega arith, gathered_blank c.args.rows.now c.args.period (length c.args.rows.now) (omega arith))
+pub loop-row-init : goal.loop-row-init
+loop-row-init c = (square_blank c.default.result, gathered_blank c.default.result c.args.period c.default.ensures)
 
-pub loop-k-preserved-then-stands_in : goal.loop-k-preserved-then-stands_in
-loop-k-preserved-then-stands_in c =
-    let rows = c.args.rows.now in
-    let p = c.args.period in
-    let k = c.loop-k.k - 1 in
-    let g = c.loop-k.cells in
-    let x = get_or rows k no_row in
-    let within : k < length rows = omega arith in
-    let up : c.loop-k.k ≡ k + 1 = omega arith in
-    let before = subst (Gathered g rows p) up c.loop-k.invariant.2 in
-    let stands = sym c.if-stands_in.ensures in
-    let inside = standing_inside x p stands in (
-      square_set g x.north x.south c.with.result c.loop-k.invariant.0,
-      omega arith,
-      subst (λ (v : Cell). Gathered (set g x.north (set (get_or g x.north []) x.south v)) rows p k) (sym c.with.ensures)
-          (gathered_in g rows p k x c.loop-k.invariant.0 inside.0 inside.1 within (get_or_default rows k no_row x within) stands before),
-    )
-
-pub loop-k-preserved : goal.loop-k-preserved
-loop-k-preserved c =
-    let rows = c.args.rows.now in
-    let k = c.loop-k.k - 1 in
-    let x = get_or rows k no_row in
-    let within : k < length rows = omega arith in
-    let up : c.loop-k.k ≡ k + 1 = omega arith in
-    let before = subst (Gathered c.loop-k.cells rows c.args.period) up c.loop-k.invariant.2 in (
-      c.loop-k.invariant.0,
-      omega arith,
-      gathered_out c.loop-k.cells rows c.args.period k x within (get_or_default rows k no_row x within) (sym c.if-stands_in.ensures) before,
+pub loop-row-preserved-then-stands_in : goal.loop-row-preserved-then-stands_in
+loop-row-preserved-then-stands_in c =
+    let x = c.in-Some.row in
+    let ys = c.loop-row.yielded in
+    let g = c.loop-row.cells in
+    let next = gathered_in g (seen ys) c.args.period x.now c.loop-row.invariant.0 (sym c.if-stands_in.ensures) c.loop-row.invariant.1 in (
+      square_set g x.now.north x.now.south c.with.result c.loop-row.invariant.0,
+      rw (seen_more ys x) (subst (λ (v : Cell). Gathered (set g x.now.north (set (get_or g x.now.north []) x.now.south v)) (x.now ∷ seen ys) c.args.period) (sym c.with.ensures) next),
     )
 
 pub returns : goal.returns
 returns c =
-    let none : c.loop-k.k ≡ 0 = omega arith in
-    grid_is c.loop-k.cells c.args.rows.now c.args.period c.loop-k.invariant.0
-    (subst (Gathered c.loop-k.cells c.args.rows.now c.args.period) none c.loop-k.invariant.2)
+    let rows = c.args.rows.now in
+    let items = YieldsList-at c.into_iter-row-iterator.ensures.into_iter_gives (YieldsList-from_rev_slice rows cc) in
+    let all = YieldsList-end items c.loop-row.yielded _ c.loop-row.yielded_by _ _ c.in-None.is c.next.ensures.steps in
+    let every : seen c.loop-row.yielded ≡ rows = ap reverse all.0 ∙ reverse-reverse rows in
+    grid_is c.loop-row.cells rows c.args.period c.loop-row.invariant.0 (subst (λ (xs : List FiledRow). Gathered c.loop-row.cells xs c.args.period) every c.loop-row.invariant.1)

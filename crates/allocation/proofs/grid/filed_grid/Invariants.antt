@@ -1,9 +1,5 @@
-use Rattle.std.proofs.Common.{◌≤◌, length}
-use Rattle.allocation.proofs.Gathering.{Square, Gathered}
+use Rattle.allocation.proofs.Gathering.{Square, Gathered, seen}
 use Rattle.allocation.proofs.grid.filed_grid.Given as goal
 
-abbrev pub invariant-loop-k : goal.invariant-loop-k
-invariant-loop-k l = Square l.cells × (l.k ≤ length l.rows) × Gathered l.cells l.rows l.period l.k
-
-abbrev pub decreases-loop-k : goal.decreases-loop-k
-decreases-loop-k l = l.k
+abbrev pub invariant-loop-row : goal.invariant-loop-row
+invariant-loop-row l = Square l.cells × Gathered l.cells (seen l.yielded) l.period

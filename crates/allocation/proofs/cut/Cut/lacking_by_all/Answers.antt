@@ -1,0 +1,12 @@
+use Rattle.std.proofs.Common.{◌≡◌, ℕ, ◌-◌, rules}
+use Rattle.energy.specs.declared.unit.Kwh.{Kwh}
+use Rattle.energy.specs.Grids.{figure_at}
+use Rattle.energy.specs.Units.{kwh}
+use Rattle.allocation.specs.Allocation.{traded}
+use Rattle.allocation.specs.Tables.{way_of}
+use Rattle.allocation.proofs.Making.{made_at}
+use Rattle.allocation.proofs.cut.Cut.lacking_by_all.Goals as goal
+
+pub returns : goal.returns
+returns g c k =
+    made_at c.from_fn.ensures.items (λ (i : ℕ) (e : Kwh). e.0 ≡ traded (way_of c.args.self.now.table.now) i - figure_at c.args.held.now i) (λ i y q p. search rules) k (kwh 0)
