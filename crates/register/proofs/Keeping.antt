@@ -1,7 +1,9 @@
 -- What is registered and assigned keeps the rules of a register.
-use Rattle.std.proofs.Common.{◌≡◌, ℕ, zero, suc, ◌<◌, ◌≤◌, Bool, true, false, not, leb, List, [], ◌∷◌, ◌++◌, length, get_or, set, is_some, Some, None, Option, sym, refl, ap, ◌∙◌, arith}
+use Rattle.std.proofs.Common.{◌≡◌, ℕ, zero, suc, ◌≤◌, Bool, true, false, not, List, [], ◌∷◌, ◌++◌, length, get_or, set, is_some, Some, None, Option, sym, refl, ap, subst, arith}
 use Rattle.std.proofs.lemmas.List.{append_assoc, append-nil, map_push, length-set, length_push}
-use Rattle.std.proofs.lemmas.Bool.{and_parts, and_from, le-leb, leb-true, true≢false}
+use Rattle.std.proofs.lemmas.Bool.Decides.{nat_tests}
+use Rattle.std.proofs.lemmas.List.Folds.{list_all-append}
+use Rattle.std.proofs.lemmas.Bool.{and_parts, and_from, ltb-true}
 use Rattle.std.specs.Option.{option_map, option_or}
 use Rattle.std.specs.List.{list_all}
 use Rattle.energy.specs.Codes.{same_code}
@@ -9,9 +11,11 @@ use Rattle.energy.specs.declared.side.Side.{Side}
 use Rattle.energy.specs.declared.side.Side.TheVariants.{Northern, Southern}
 use Rattle.energy.specs.declared.unit.Mw.{Mw}
 use Rattle.register.proofs.Finding.{New, new_from_none, same_flip}
-use Rattle.register.proofs.Passing.{pass_set, pass_append, pass_parts}
+use Rattle.register.proofs.Passing.{pass_change, pass_append, pass_parts}
 use Rattle.register.specs.Limits.{mw_within}
-use Rattle.register.specs.Parties.{is_distinct, PartyView, Parties, new_party, on, changed, codes_of, number_in, placed, found, joined_by, entitled_at, sides_few, codes_apart, entitlements_within}
+use Rattle.register.specs.Parties.{is_distinct, PartyView, Parties, new_party, on, changed, codes_of, number_in, placed, found, has_room, joined_by, entitled_at, sides_few, codes_apart, entitlements_within}
+use Rattle.register.specs.Registers.{parties_of}
+use Rattle.register.specs.declared.register.Register.{Register}
 
 -- a new code can stand anywhere among codes that are apart
 apart_insert : (bs cs : List (List ℕ)) (text : List ℕ) → is_distinct same_code (cs ++ bs) ≡ true → New text (cs ++ bs) → is_distinct same_code (cs ++ (text ∷ bs)) ≡ true
@@ -20,22 +24,18 @@ apart_insert bs (a ∷ cs) text e new =
     let old = and_parts (list_all (λ c. not (same_code a c)) (cs ++ bs)) (is_distinct same_code (cs ++ bs)) e in
     let fresh = and_parts (not (same_code text a)) (list_all (λ c. not (same_code text c)) (cs ++ bs)) new in
     let parts = pass_parts (λ c. not (same_code a c)) cs bs old.0 in
-    let here = ap not (same_flip a text) ∙ fresh.0 in
-    and_from (list_all (λ c. not (same_code a c)) (cs ++ (text ∷ bs))) (is_distinct same_code (cs ++ (text ∷ bs)))
-    (pass_append (λ c. not (same_code a c)) cs (text ∷ bs) parts.0 (and_from (not (same_code a text)) (list_all (λ c. not (same_code a c)) bs) here parts.1))
-    (apart_insert bs cs text old.1 fresh.1)
+    let flip = same_flip a text in
+    let rest = apart_insert bs cs text old.1 fresh.1 in
+    let all = list_all-append (λ c. not (same_code a c)) cs (text ∷ bs) in
+    grind (arith, nat_tests)
 
-neither : (o p : Option ℕ) → option_or (option_map (placed Northern) o) (option_map (placed Southern) p) ≡ None → (o ≡ None) × (p ≡ None)
-neither (Some n) p e = let z : ◌≡◌ {A = ℕ} 0 1 = cc in absurd (omega arith)
-neither None (Some n) e = let z : ◌≡◌ {A = ℕ} 0 1 = cc in absurd (omega arith)
+neither : (o p : Option ℕ) → is_some (option_or (option_map (placed Northern) o) (option_map (placed Southern) p)) ≡ false → (o ≡ None) × (p ≡ None)
+neither (Some n) p e = grind arith
+neither None (Some n) e = grind arith
 neither None None e = (refl, refl)
 
-pub none_from_test : {X : Type 0} (o : Option X) → is_some o ≡ false → o ≡ None
-none_from_test (Some x) e = absurd (true≢false e)
-none_from_test None e = refl
-
 -- a code that nobody has is new among the codes of both sides
-new_on_both : (text : List ℕ) (ps : Parties) → found text ps ≡ None → New text (codes_of ps.northern ++ codes_of ps.southern)
+new_on_both : (text : List ℕ) (ps : Parties) → is_some (found text ps) ≡ false → New text (codes_of ps.northern ++ codes_of ps.southern)
 new_on_both text ps e =
     let none = neither (number_in text ps.northern) (number_in text ps.southern) e in
     pass_append (λ c. not (same_code text c)) (codes_of ps.northern) (codes_of ps.southern)
@@ -56,18 +56,21 @@ pub record Kept (ps : Parties) : Type 0 where
   pub apart : codes_apart ps ≡ true
   pub within : entitlements_within ps ≡ true
 
+pub keeps : (r : Register) → Kept (parties_of r)
+keeps r = record { few = r.few; apart = r.apart; within = r.within }
+
 abbrev pub entitled : PartyView → Bool
 entitled p = mw_within p.entitlement
 
 module _ (ps : Parties) (kept : Kept ps) where
   -- what the rules say of one side
   pub few_on : (s : Side) → length (on s ps) ≤ 16
-  few_on Northern = leb-true (length ps.northern) 16 (and_parts (leb (length ps.northern) 16) (leb (length ps.southern) 16) kept.few).0
-  few_on Southern = leb-true (length ps.southern) 16 (and_parts (leb (length ps.northern) 16) (leb (length ps.southern) 16) kept.few).1
+  few_on Northern = let few = kept.few in grind (arith, nat_tests)
+  few_on Southern = let few = kept.few in grind (arith, nat_tests)
 
   few_changed : (s : Side) (qs : List PartyView) → length qs ≤ 16 → sides_few (changed s (λ _. qs) ps) ≡ true
-  few_changed Northern qs h = and_from (leb (length qs) 16) (leb (length ps.southern) 16) (le-leb (length qs) 16 h) (le-leb (length ps.southern) 16 (few_on Southern))
-  few_changed Southern qs h = and_from (leb (length ps.northern) 16) (leb (length qs) 16) (le-leb (length ps.northern) 16 (few_on Northern)) (le-leb (length qs) 16 h)
+  few_changed Northern qs h = let few = few_on Southern in grind (arith, nat_tests)
+  few_changed Southern qs h = let few = few_on Northern in grind (arith, nat_tests)
 
   pub within_on : (s : Side) → list_all entitled (on s ps) ≡ true
   within_on Northern = (pass_parts entitled ps.northern ps.southern kept.within).0
@@ -77,39 +80,37 @@ module _ (ps : Parties) (kept : Kept ps) where
   within_changed Northern qs h = pass_append entitled qs ps.southern h (within_on Southern)
   within_changed Southern qs h = pass_append entitled ps.northern qs (within_on Northern) h
 
-  apart_added : (s : Side) (text : List ℕ) → found text ps ≡ None → codes_apart (changed s (λ _. joined_by text (on s ps)) ps) ≡ true
+  apart_added : (s : Side) (text : List ℕ) → is_some (found text ps) ≡ false → codes_apart (changed s (λ _. joined_by text (on s ps)) ps) ≡ true
   apart_added Northern text e =
       let ns = codes_of ps.northern in
       let ss = codes_of ps.southern in
-      let same = ap (λ (cs : List (List ℕ)). cs ++ ss) (codes_push ps.northern text) ∙ append_assoc ns (text ∷ []) ss in
-      ap (is_distinct same_code) same ∙ apart_insert ss ns text kept.apart (new_on_both text ps e)
+      rw (codes_push ps.northern text, append_assoc ns (text ∷ []) ss) (apart_insert ss ns text kept.apart (new_on_both text ps e))
   apart_added Southern text e =
       let ns = codes_of ps.northern in
       let ss = codes_of ps.southern in
-      let same = ap (λ (cs : List (List ℕ)). ns ++ cs) (codes_push ps.southern text) ∙ sym (append_assoc ns ss (text ∷ [])) in
       let whole = append-nil (ns ++ ss) in
-      ap (is_distinct same_code) same
-      ∙ apart_insert [] (ns ++ ss) text (ap (is_distinct same_code) whole ∙ kept.apart)
-      (ap (list_all (λ c. not (same_code text c))) whole ∙ new_on_both text ps e)
+      rw (codes_push ps.southern text, ← append_assoc ns ss (text ∷ [])) (apart_insert [] (ns ++ ss) text (rw whole kept.apart) (rw whole (new_on_both text ps e)))
 
-  pub added_keeps : (s : Side) (text : List ℕ) → found text ps ≡ None → length (on s ps) < 16 → Kept (changed s (λ _. joined_by text (on s ps)) ps)
-  added_keeps s text e h = record {
-    few = few_changed s (joined_by text (on s ps)) (omega (arith, length_push (on s ps) (new_party text)));
-    apart = apart_added s text e;
-    within = within_changed s (joined_by text (on s ps)) (pass_append entitled (on s ps) (new_party text ∷ []) (within_on s) refl);
-  }
+  -- a new party on a side with room
+  pub added_keeps : (s : Side) (text : List ℕ) (qs : List PartyView) → qs ≡ joined_by text (on s ps) → is_some (found text ps) ≡ false → has_room (on s ps) ≡ true → Kept (changed s (λ _. qs) ps)
+  added_keeps s text qs same new room =
+      let few = ltb-true (length (on s ps)) 16 room in
+      subst (λ (xs : List PartyView). Kept (changed s (λ _. xs) ps)) (sym same) (record {
+        few = few_changed s (joined_by text (on s ps)) (omega (arith, length_push (on s ps) (new_party text)));
+        apart = apart_added s text new;
+        within = within_changed s (joined_by text (on s ps)) (pass_append entitled (on s ps) (new_party text ∷ []) (within_on s) refl);
+      })
 
   apart_entitled : (s : Side) (k : ℕ) (m : Mw) → codes_apart (changed s (λ _. entitled_at k m (on s ps)) ps) ≡ true
-  apart_entitled Northern k m =
-      ap (λ (cs : List (List ℕ)). is_distinct same_code (cs ++ codes_of ps.southern)) (codes_entitled ps.northern k m) ∙ kept.apart
-  apart_entitled Southern k m =
-      ap (λ (cs : List (List ℕ)). is_distinct same_code (codes_of ps.northern ++ cs)) (codes_entitled ps.southern k m) ∙ kept.apart
+  apart_entitled Northern k m = rw (codes_entitled ps.northern k m) kept.apart
+  apart_entitled Southern k m = rw (codes_entitled ps.southern k m) kept.apart
 
-  pub entitled_keeps : (s : Side) (k : ℕ) (m : Mw) → mw_within m ≡ true → Kept (changed s (λ _. entitled_at k m (on s ps)) ps)
-  entitled_keeps s k m h =
+  -- an entitlement within the limit
+  pub entitled_keeps : (s : Side) (k : ℕ) (m : Mw) (qs : List PartyView) → qs ≡ entitled_at k m (on s ps) → mw_within m ≡ true → Kept (changed s (λ _. qs) ps)
+  entitled_keeps s k m qs same h =
       let p : PartyView = record { code = (get_or (on s ps) k (new_party [])).code; entitlement = m } in
-      record {
+      subst (λ (xs : List PartyView). Kept (changed s (λ _. xs) ps)) (sym same) (record {
         few = few_changed s (set (on s ps) k p) (omega (arith, length-set (on s ps) k p, few_on s));
         apart = apart_entitled s k m;
-        within = within_changed s (set (on s ps) k p) (pass_set entitled (on s ps) k p h (within_on s));
-      }
+        within = within_changed s (set (on s ps) k p) (pass_change entitled (λ _. p) (λ _ _. h) (on s ps) k (new_party []) p refl (within_on s));
+      })

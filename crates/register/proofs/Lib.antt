@@ -1,5 +1,6 @@
 pub mod Finding
 pub mod Keeping
 pub mod Passing
-mod Rolling
 mod Scanning
+mod Giving
+mod Posting

@@ -8,7 +8,6 @@ mod period_table;
 mod refusal;
 mod register;
 mod registered;
-mod roll;
 
 pub use period_table::PeriodTable;
 pub use refusal::{AssignmentRefusal, OverLimit, RegistrationRefusal};

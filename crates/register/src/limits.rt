@@ -1,26 +1,27 @@
 // The limits of a register and of a period table.
-ghost use Rattle.std.specs.Prelude.{◌≡◌};
-ghost use Rattle.register.specs.Limits.{mw_within, rate_within};
+ghost use Rattle.std.specs.Prelude.{◌≡◌, cond};
+ghost use Rattle.std.specs.Ordering.{is_some_and, is_le};
+ghost use Rattle.register.specs.Refusals.{over_limit};
 
+use crate::refusal::OverLimit;
 use energy::{Mw, Rate};
 
 /// How many parties a side has at most.
 pub(crate) const MOST_PARTIES: usize = 16;
 
-const LARGEST_MW: u32 = 9_999;
+/// The largest entitlement or net transfer capacity.
+pub(crate) const LARGEST_MW: Mw = Mw(9_999);
 
-const LARGEST_RATE: u64 = 100_000;
+/// The largest rate.
+pub(crate) const LARGEST_RATE: Rate = Rate(100_000);
 
-/// Whether an entitlement or a net transfer capacity is within its limit.
-pub(crate) fn mw_within_limit(capacity: Mw) -> bool
-    ensures { result ≡ mw_within capacity }
+/// A figure that is at most so large.
+pub(crate) fn up_to<T: PartialOrd + Drop>(largest: T, figure: T) -> Result<T, OverLimit>
+    ensures { result ≡ cond (is_some_and is_le (T.partial_cmp figure largest)) (Ok figure) (Err over_limit) }
 {
-    capacity.0 <= LARGEST_MW
-}
-
-/// Whether a rate is within its limit.
-pub(crate) fn rate_within_limit(rate: Rate) -> bool
-    ensures { result ≡ rate_within rate }
-{
-    rate.0 <= LARGEST_RATE
+    if figure <= largest {
+        Ok(figure)
+    } else {
+        Err(OverLimit)
+    }
 }

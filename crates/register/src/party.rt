@@ -2,7 +2,7 @@
 ghost use Rattle.std.specs.Prelude.{◌≡◌};
 ghost use Rattle.energy.specs.PartyCodes.{code_text};
 ghost use Rattle.register.specs.Parties.{new_party};
-ghost use Rattle.register.specs.Rolls.{party_view};
+ghost use Rattle.register.specs.Rolls.{party_view, has_code};
 
 use energy::{Mw, PartyCode};
 
@@ -22,5 +22,19 @@ impl Party {
             code,
             entitlement: Mw(0),
         }
+    }
+
+    /// Whether this is the party's code.
+    pub(crate) fn has_code(self, code: PartyCode) -> bool
+        ensures { result ≡ has_code (code_text code) self }
+    {
+        self.code == code
+    }
+}
+
+impl Default for Party {
+    /// The party that stands in each place that is not in use.
+    fn default() -> Party {
+        Party::new(PartyCode::read(b"0000").unwrap())
     }
 }

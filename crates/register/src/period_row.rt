@@ -5,6 +5,7 @@ ghost use Rattle.register.specs.PeriodRows.{plain_row, ntc_in, with_ntc, with_se
 use energy::{Direction, Mw, Rate};
 
 /// The net transfer capacity of each direction, whether the link is in service, and the rate if one was posted.
+// A field for each direction, and no array of both: an index would rest on the order of the variants of `Direction`.
 #[derive(Clone, Copy)]
 pub(crate) struct PeriodRow {
     ns_ntc: Mw,
@@ -50,39 +51,27 @@ impl PeriodRow {
         self.rate
     }
 
-    /// The same with another net transfer capacity of a direction.
-    pub(crate) fn with_ntc(self, direction: Direction, ntc: Mw) -> PeriodRow
-        ensures { result ≡ with_ntc direction ntc self }
+    /// Posts the net transfer capacity of a direction.
+    pub(crate) fn post_ntc(&mut self, direction: Direction, ntc: Mw)
+        ensures { self.new ≡ with_ntc direction ntc self.old }
     {
         match direction {
-            Direction::NorthSouth => PeriodRow {
-                ns_ntc: ntc,
-                ..self
-            },
-            Direction::SouthNorth => PeriodRow {
-                sn_ntc: ntc,
-                ..self
-            },
+            Direction::NorthSouth => self.ns_ntc = ntc,
+            Direction::SouthNorth => self.sn_ntc = ntc,
         }
     }
 
-    /// The same in service, or out of it.
-    pub(crate) fn with_service(self, on: bool) -> PeriodRow
-        ensures { result ≡ with_service on self }
+    /// Takes the link into service, or out of it.
+    pub(crate) fn set_service(&mut self, on: bool)
+        ensures { self.new ≡ with_service on self.old }
     {
-        PeriodRow {
-            service: on,
-            ..self
-        }
+        self.service = on;
     }
 
-    /// The same with a rate.
-    pub(crate) fn with_rate(self, rate: Rate) -> PeriodRow
-        ensures { result ≡ with_rate rate self }
+    /// Posts the rate.
+    pub(crate) fn post_rate(&mut self, rate: Rate)
+        ensures { self.new ≡ with_rate rate self.old }
     {
-        PeriodRow {
-            rate: Some(rate),
-            ..self
-        }
+        self.rate = Some(rate);
     }
 }

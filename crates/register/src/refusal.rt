@@ -1,25 +1,26 @@
 // Why a register or a period table does not take what it is told.
 ghost use Rattle.std.specs.Prelude.{◌≡◌};
+ghost use Rattle.register.specs.declared.refusal.AssignmentRefusal.TheVariants as assignment;
 ghost use Rattle.register.specs.Refusals.{registration_number, assignment_number, over_limit_number};
 
 /// Why a party is not registered.
 #[derive(Clone, Copy, PartialEq, Eq, Debug)]
 pub enum RegistrationRefusal {
     /// The text is not a code.
-    MalformedCode,
+    MalformedCode = 4,
     /// A party of either side has the code.
-    CodeTaken,
+    CodeTaken = 5,
     /// The side has 16 parties.
-    SideFull,
+    SideFull = 6,
 }
 
 /// Why an entitlement is not assigned.
 #[derive(Clone, Copy, PartialEq, Eq, Debug)]
 pub enum AssignmentRefusal {
     /// No party has the code.
-    NotRegistered,
+    NotRegistered = 7,
     /// The entitlement is above 9,999 MW.
-    OverLimit,
+    OverLimit = 10,
 }
 
 /// A figure of a period is above its limit.
@@ -28,14 +29,11 @@ pub struct OverLimit;
 
 impl RegistrationRefusal {
     /// The number under which members know the refusal.
+    // No trait over all refusals: each kind has its own definition, and the body is one cast.
     pub fn number(self) -> u8
         ensures { result ≡ registration_number self }
     {
-        match self {
-            RegistrationRefusal::MalformedCode => 4,
-            RegistrationRefusal::CodeTaken => 5,
-            RegistrationRefusal::SideFull => 6,
-        }
+        self as u8
     }
 }
 
@@ -44,10 +42,7 @@ impl AssignmentRefusal {
     pub fn number(self) -> u8
         ensures { result ≡ assignment_number self }
     {
-        match self {
-            AssignmentRefusal::NotRegistered => 7,
-            AssignmentRefusal::OverLimit => OverLimit.number(),
-        }
+        self as u8
     }
 }
 
@@ -56,6 +51,14 @@ impl OverLimit {
     pub fn number(self) -> u8
         ensures { result ≡ over_limit_number self }
     {
-        10
+        AssignmentRefusal::from(self).number()
+    }
+}
+
+impl From<OverLimit> for AssignmentRefusal {
+    ghost from_gives = { λ _ refusal. refusal ≡ assignment.OverLimit };
+
+    fn from(_over: OverLimit) -> AssignmentRefusal {
+        AssignmentRefusal::OverLimit
     }
 }

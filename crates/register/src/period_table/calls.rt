@@ -1,9 +1,9 @@
 // What a table of periods can be asked, and told.
-ghost use Rattle.std.specs.Prelude.{◌≡◌, ◌-◌, true};
-ghost use Rattle.register.specs.PeriodRows.{ntc_in, with_service, row_within};
+ghost use Rattle.std.specs.Prelude.{◌≡◌, ◌-◌};
+ghost use Rattle.register.specs.PeriodRows.{ntc_in, with_service};
 ghost use Rattle.register.specs.PeriodTables.{default_rows, row_at, row_changed, ntc_posted, rate_posted};
 
-use crate::limits::{mw_within_limit, rate_within_limit};
+use crate::limits::{LARGEST_MW, LARGEST_RATE, up_to};
 use crate::period_row::PeriodRow;
 use crate::period_table::PeriodTable;
 use crate::refusal::OverLimit;
@@ -57,11 +57,8 @@ impl PeriodTable {
     ) -> Result<(), OverLimit>
         ensures { (self.new.rows, result) ≡ ntc_posted period direction ntc self.old.rows }
     {
-        if !mw_within_limit(ntc) {
-            return Err(OverLimit);
-        }
-        let row = self.row(period).with_ntc(direction, ntc);
-        self.put(period, row);
+        let ntc = up_to(LARGEST_MW, ntc)?;
+        self.rows[place(period)].post_ntc(direction, ntc);
         Ok(())
     }
 
@@ -69,36 +66,23 @@ impl PeriodTable {
     pub fn set_service(&mut self, period: Period, on: bool)
         ensures { self.new.rows ≡ row_changed period (with_service on) self.old.rows }
     {
-        let row = self.row(period).with_service(on);
-        self.put(period, row);
+        self.rows[place(period)].set_service(on);
     }
 
     /// Posts the rate of a period.
     pub fn post_rate(&mut self, period: Period, rate: Rate) -> Result<(), OverLimit>
         ensures { (self.new.rows, result) ≡ rate_posted period rate self.old.rows }
     {
-        if !rate_within_limit(rate) {
-            return Err(OverLimit);
-        }
-        let row = self.row(period).with_rate(rate);
-        self.put(period, row);
+        let rate = up_to(LARGEST_RATE, rate)?;
+        self.rows[place(period)].post_rate(rate);
         Ok(())
     }
 
     /// What is in force in a period.
     fn row(&self, period: Period) -> PeriodRow
-        ensures answer { result ≡ row_at period self.now.rows }
-        ensures within { row_within result ≡ true }
+        ensures { result ≡ row_at period self.now.rows }
     {
         self.rows[place(period)]
-    }
-
-    /// Puts a row in the place of a period's.
-    fn put(&mut self, period: Period, row: PeriodRow)
-        requires within { row_within row ≡ true }
-        ensures { self.new.rows ≡ row_changed period (λ _. row) self.old.rows }
-    {
-        self.rows[place(period)] = row;
     }
 }
 

@@ -1,19 +1,20 @@
 // What a register can be asked, and told.
-ghost use Rattle.std.specs.Prelude.{◌≡◌, true, false, length, is_some};
+ghost use Rattle.std.specs.Prelude.{◌≡◌, ◌≤◌, true, false, length, is_some};
 ghost use Rattle.std.specs.Option.{option_map};
-ghost use Rattle.std.specs.List.{slice_get};
+ghost use Rattle.std.specs.List.{slice_get, position};
 ghost use Rattle.energy.specs.PartyCodes.{code_text};
 ghost use Rattle.register.specs.Limits.{mw_within};
-ghost use Rattle.register.specs.Parties.{no_parties, on, number_in, found, changed, has_room, joined_by, entitled_at, sides_few, codes_apart, entitlements_within};
+ghost use Rattle.register.specs.Parties.{no_parties, on, number_in, placed, found, changed, has_room, joined_by, entitled_at};
 ghost use Rattle.register.specs.Registers.{parties_of, FoundAgain};
 ghost use Rattle.register.specs.Registration.{registration, assignment};
-ghost use Rattle.register.specs.Rolls.{roll_of};
+ghost use Rattle.register.specs.Rolls.{party_view, roll_of, views_of, has_code};
 
-use crate::limits::{MOST_PARTIES, mw_within_limit};
+use crate::limits::{LARGEST_MW, MOST_PARTIES, up_to};
+use crate::party::Party;
 use crate::refusal::{AssignmentRefusal, RegistrationRefusal};
 use crate::register::Register;
 use crate::registered::Registered;
-use crate::roll::Roll;
+use arrayvec::ArrayVec;
 use energy::{Mw, PartyCode, Side};
 
 impl Register {
@@ -22,8 +23,8 @@ impl Register {
         ensures { parties_of result ≡ no_parties }
     {
         Register {
-            northern: Roll::empty(),
-            southern: Roll::empty(),
+            northern: ArrayVec::new(),
+            southern: ArrayVec::new(),
         }
     }
 
@@ -38,7 +39,7 @@ impl Register {
     pub fn count(&self, side: Side) -> usize
         ensures { result ≡ length (on side (parties_of self.now)) }
     {
-        self.roll(side).count() as usize
+        self.parties(side).len()
     }
 
     /// The code of the party with a number on a side; the party is found again by it.
@@ -46,40 +47,31 @@ impl Register {
         ensures answer { option_map code_text result ≡ option_map (λ p. p.code) (slice_get (on side (parties_of self.now)) number) }
         ensures back { FoundAgain side number (parties_of self.now) result }
     {
-        Some(self.roll(side).party(number)?.code)
+        Some(self.party(side, number)?.code)
     }
 
     /// The entitlement of the party with a number on a side.
     pub fn entitlement(&self, side: Side, number: u8) -> Option<Mw>
         ensures { result ≡ option_map (λ p. p.entitlement) (slice_get (on side (parties_of self.now)) number) }
     {
-        Some(self.roll(side).party(number)?.entitlement)
+        Some(self.party(side, number)?.entitlement)
     }
 
     /// The number of the party with a code, where it is registered on a side.
+    #[tactic(auto, using(crate::proofs::Scanning::scanned))]
     pub fn find_on(&self, side: Side, code: PartyCode) -> Option<u8>
         ensures { result ≡ number_in (code_text code) (on side (parties_of self.now)) }
     {
-        self.roll(side).number_of(code)
+        let number = position_of(self.parties(side), code)?;
+        Some(number as u8)
     }
 
     /// Where the party with a code is registered.
     pub fn find(&self, code: PartyCode) -> Option<Registered>
         ensures { result ≡ found (code_text code) (parties_of self.now) }
     {
-        if let Some(number) = self.find_on(Side::Northern, code) {
-            return Some(Registered {
-                side: Side::Northern,
-                number,
-            });
-        }
-        match self.find_on(Side::Southern, code) {
-            Some(number) => Some(Registered {
-                side: Side::Southern,
-                number,
-            }),
-            None => None,
-        }
+        self.place_on(Side::Northern, code)
+            .or_else(|| self.place_on(Side::Southern, code))
     }
 
     /// Registers a party behind the others of its side, and tells its number.
@@ -101,11 +93,17 @@ impl Register {
         ensures { (parties_of self.new, result) ≡ assignment (code_text code) mw (parties_of self.old) }
     {
         let place = self.find(code).ok_or(AssignmentRefusal::NotRegistered)?;
-        if !mw_within_limit(mw) {
-            return Err(AssignmentRefusal::OverLimit);
-        }
+        let mw = up_to(LARGEST_MW, mw)?;
         self.entitle(place, mw);
         Ok(())
+    }
+
+    /// The place of the party with a code, where it is registered on a side.
+    fn place_on(&self, side: Side, code: PartyCode) -> Option<Registered>
+        ensures { result ≡ option_map (placed side) (number_in (code_text code) (on side (parties_of self.now))) }
+    {
+        let number = self.find_on(side, code)?;
+        Some(Registered { side, number })
     }
 
     /// Whether a party of either side has a code.
@@ -122,6 +120,7 @@ impl Register {
         self.count(side) < MOST_PARTIES
     }
 
+    // Here and in `entitle` a side's field is written in place: of a lent side the facts of both would be asked at the write.
     /// Puts a party behind the others of its side.
     fn seat(&mut self, side: Side, code: PartyCode) -> u8
         requires new { is_some (found (code_text code) (parties_of self.old)) ≡ false }
@@ -129,10 +128,11 @@ impl Register {
         ensures parties { parties_of self.new ≡ changed side (joined_by (code_text code)) (parties_of self.old) }
         ensures number { result ≡ length (on side (parties_of self.old)) }
     {
-        let mut roll = *self.roll(side);
-        let number = roll.count();
-        roll.add(code);
-        self.put(side, roll);
+        let number = self.count(side) as u8;
+        match side {
+            Side::Northern => self.northern.push(Party::new(code)),
+            Side::Southern => self.southern.push(Party::new(code)),
+        }
         number
     }
 
@@ -141,31 +141,45 @@ impl Register {
         requires within { mw_within mw ≡ true }
         ensures { parties_of self.new ≡ changed place.side (entitled_at place.number mw) (parties_of self.old) }
     {
-        let mut roll = *self.roll(place.side);
-        roll.entitle(place.number, mw);
-        self.put(place.side, roll);
+        let number = place.number as usize;
+        match place.side {
+            Side::Northern => give(&mut self.northern, number, mw),
+            Side::Southern => give(&mut self.southern, number, mw),
+        }
+    }
+
+    /// The party with a number on a side.
+    fn party(&self, side: Side, number: u8) -> Option<Party>
+        ensures { option_map party_view result ≡ slice_get (on side (parties_of self.now)) number }
+    {
+        self.parties(side).get(number as usize).copied()
     }
 
     /// The parties of a side.
-    fn roll(&self, side: Side) -> &Roll
-        ensures { roll_of result.now ≡ on side (parties_of self.now) }
+    fn parties(&self, side: Side) -> &[Party]
+        ensures parties { views_of result.now ≡ on side (parties_of self.now) }
+        ensures few { length result.now ≤ 16 }
     {
         match side {
-            Side::Northern => &self.northern,
-            Side::Southern => &self.southern,
+            Side::Northern => self.northern.as_slice(),
+            Side::Southern => self.southern.as_slice(),
         }
     }
+}
 
-    /// Puts other parties in the place of those of a side.
-    fn put(&mut self, side: Side, roll: Roll)
-        requires few { sides_few (changed side (λ _. roll_of roll) (parties_of self.old)) ≡ true }
-        requires apart { codes_apart (changed side (λ _. roll_of roll) (parties_of self.old)) ≡ true }
-        requires within { entitlements_within (changed side (λ _. roll_of roll) (parties_of self.old)) ≡ true }
-        ensures { parties_of self.new ≡ changed side (λ _. roll_of roll) (parties_of self.old) }
-    {
-        match side {
-            Side::Northern => self.northern = roll,
-            Side::Southern => self.southern = roll,
-        }
+/// The position of the party with a code.
+fn position_of(parties: &[Party], code: PartyCode) -> Option<usize>
+    ensures { result ≡ position (has_code (code_text code)) parties.now }
+{
+    parties.iter().position(|party| party.has_code(code))
+}
+
+/// Gives the party at a position its entitlement.
+#[tactic(auto, using(crate::proofs::Giving::given_at))]
+fn give(parties: &mut ArrayVec<Party, MOST_PARTIES>, position: usize, mw: Mw)
+    ensures { roll_of parties.new ≡ entitled_at position mw (roll_of parties.old) }
+{
+    if let Some(party) = parties.get_mut(position) {
+        party.entitlement = mw;
     }
 }
