@@ -1,8 +1,9 @@
 pub mod Backing
 pub mod Bounding
 pub mod Digiting
+pub mod FieldTexting
 pub mod Fielding
-pub mod Lengths
+pub mod Joining
 pub mod LineBack
 pub mod Lining
 pub mod Marking

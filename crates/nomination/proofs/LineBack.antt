@@ -12,12 +12,11 @@ use Rattle.nomination.specs.Records.{RecordText, header, trade, matched, header_
 use Rattle.nomination.specs.Parts.{part_of}
 use Rattle.nomination.specs.Texts.{plain_text, three_text, amount_text, date_text, flag_text, record_fields, header_fields, detail_fields, parted, line_text}
 use Rattle.nomination.specs.Values.{RecordValues, onward, record_read}
-use Rattle.nomination.specs.ValuesHeld.{header_said, detail_said, values_said}
+use Rattle.nomination.specs.ValuesHeld.{Values, header_said, detail_said, values_said}
 use Rattle.nomination.specs.WayBack.{OnLine, ReadsBack}
 use Rattle.nomination.specs.Writing.{over, placed}
 use Rattle.nomination.specs.declared.detail.Detail.{Detail}
-use Rattle.nomination.specs.declared.values.Values.{Values}
-use Rattle.nomination.specs.declared.values.Values.TheVariants.{Heading, Trading, Matching}
+use Rattle.nomination.specs.declared.record.RecordOf.TheVariants.{Heading, Trading, Matching}
 use Rattle.energy.specs.PartyCodes.{code_text}
 use Rattle.nomination.proofs.Backing.{free, all_free, not_true, fields_back, parted_free, leading_free}
 use Rattle.nomination.proofs.Overlaying.{length_over, drop_over}

@@ -1,8 +1,7 @@
 -- The lines of a text, from one line end to the next.
-use Rattle.std.proofs.Common.{◌≡◌, ℕ, suc, ◌+◌, ◌-◌, ◌<◌, not, eqb, ltb, List, [], ◌∷◌, length, take, drop, refl, inl, inr, add-one, one-add, arith, length-drop}
-use Prim.Native.Nat.compare
+use Rattle.std.proofs.Common.{◌≡◌, ℕ, ◌+◌, ◌<◌, ◌≤◌, not, eqb, ltb, List, [], ◌∷◌, length, take, drop, refl, add-one, arith, length-drop, length-take}
 use Rattle.std.proofs.lemmas.List.{drop-drop}
-use Rattle.std.proofs.lemmas.Bool.{cases_Bool, lt-ltb}
+use Rattle.std.proofs.lemmas.List.Sums.{prefix_len-le-length}
 use Rattle.std.proofs.lemmas.Bool.Decides.{nat_tests}
 use Rattle.std.specs.List.{prefix_len}
 use Rattle.nomination.specs.Lines.{Line, lines_of}
@@ -17,22 +16,11 @@ abbrev first_line : List ℕ → Line
 first_line xs = record { ended = ltb (reach xs) (length xs); bytes = take (reach xs) xs }
 
 -- the first line goes up to the first line end, and the others follow it
-lines_first : (x : ℕ) (xs : List ℕ) → lines_of (x ∷ xs) ≡ first_line (x ∷ xs) ∷ lines_of (drop (reach (x ∷ xs) + 1) (x ∷ xs))
+lines_first : (xs : List ℕ) → 0 < length xs → lines_of xs ≡ first_line xs ∷ lines_of (drop (reach xs + 1) xs)
 unfolding lines_of
-lines_first x [] =
-    elim (cases_Bool (eqb x 10)) [
-      | inl e ↦ rw e refl
-      | inr e ↦ rw e refl
-    ]
-lines_first x (y ∷ ys) =
-    elim (cases_Bool (eqb x 10)) [
-      | inl e ↦ rw (e, lt-ltb 0 (suc (suc (length ys))) (omega arith)) refl
-      | inr e ↦ (let ih = lines_first y ys in rw (e, ih) (simp (one-add, add-one, compare.suc-suc)))
-    ]
-
-some_lines : (xs : List ℕ) → 0 < length xs → lines_of xs ≡ first_line xs ∷ lines_of (drop (reach xs + 1) xs)
-some_lines [] h = absurd (omega arith)
-some_lines (x ∷ xs) h = lines_first x xs
+lines_first [] h = absurd (omega arith)
+lines_first (x ∷ []) h = grind (arith, nat_tests)
+lines_first (x ∷ y ∷ ys) h = grind (arith, nat_tests, lines_first (y ∷ ys) (omega arith), add-one)
 
 pub lines_none : lines_of [] ≡ []
 unfolding lines_of
@@ -42,11 +30,9 @@ lines_none = refl
 pub lines_more : (text : List ℕ) (at : ℕ) → at < length text
     → lines_of (drop at text) ≡ line_at text at ∷ lines_of (drop (place_of 10 text at + 1) text)
 lines_more text at h =
-    let w : ℕ = reach (drop at text) in
-    let n : w ≡ place_of 10 text at - at = omega arith in
-    let far = length-drop at text in
-    let same : ltb w (length text - at) ≡ ltb (at + w) (length text) = grind (arith, nat_tests) in
-    let rest = drop-drop (w + 1) at text in
-    let to : at + (w + 1) ≡ (at + w) + 1 = omega arith in
-    let more = some_lines (drop at text) (omega arith) in
-    cc
+    let more = lines_first (drop at text) in
+    grind (arith, nat_tests, more, drop-drop {A = ℕ}, length-drop {A = ℕ})
+
+-- a line goes up to its end
+pub line_reaches : (text : List ℕ) (at : ℕ) → at ≤ length text → at + length (line_at text at).bytes ≡ place_of 10 text at
+line_reaches text at h = grind (arith, prefix_len-le-length (λ (b : ℕ). not (eqb b 10)) (drop at text), length-take {A = ℕ}, length-drop {A = ℕ})

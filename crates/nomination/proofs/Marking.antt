@@ -10,7 +10,7 @@ use Rattle.nomination.specs.declared.mark.Mark.{Mark}
 use Rattle.nomination.specs.declared.mark.Mark.TheVariants.{Comma, LineEnd}
 
 -- what passes a narrower test from the front on passes a wider one, which goes on from there
-pub leading_over : (p q : ℕ → Bool) → ((b : ℕ) → p b ≡ true → q b ≡ true) → (xs : List ℕ)
+leading_over : (p q : ℕ → Bool) → ((b : ℕ) → p b ≡ true → q b ≡ true) → (xs : List ℕ)
     → prefix_len q xs ≡ prefix_len p xs + prefix_len q (drop (prefix_len p xs) xs)
 leading_over p q h [] = refl
 leading_over p q h (x ∷ xs) =
@@ -19,23 +19,16 @@ leading_over p q h (x ∷ xs) =
       | inr e ↦ rw e (omega arith)
     ]
 
--- a place that is looked for lies within the text
-pub place_within : (sep : ℕ) (text : List ℕ) (from : ℕ) → from ≤ length text
-    → (from ≤ place_of sep text from) × (place_of sep text from ≤ length text)
-place_within sep text from h =
-    let most = simp length-drop at (prefix_len-le-length (λ (b : ℕ). not (eqb b sep)) (drop from text)) in
-    (omega arith, omega arith)
-
 -- no byte that is no mark is one of the marks
 no_mark : (mark : Mark) (b : ℕ) → not (is_mark b) ≡ true → not (eqb b (mark_byte mark)) ≡ true
 no_mark Comma b e = grind (arith, nat_tests)
 no_mark LineEnd b e = grind (arith, nat_tests)
 
 -- what a test that passed or failed tells of a place
-some_below : (n k m : ℕ) → Some m ≡ cond (ltb n k) (Some n) None → (m ≡ n) × (n < k)
+pub some_below : (n k m : ℕ) → Some m ≡ cond (ltb n k) (Some n) None → (m ≡ n) × (n < k)
 some_below n k m e = (grind (arith, nat_tests), grind (arith, nat_tests))
 
-none_below : (n k : ℕ) → ◌≡◌ {A = Option ℕ} None (cond (ltb n k) (Some n) None) → k ≤ n
+pub none_below : (n k : ℕ) → ◌≡◌ {A = Option ℕ} None (cond (ltb n k) (Some n) None) → k ≤ n
 none_below n k e = grind (arith, nat_tests)
 
 module _ (mark : Mark) (text : List ℕ) (at : ℕ) where

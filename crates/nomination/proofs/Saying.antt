@@ -1,46 +1,15 @@
 -- What a record says does not depend on where its line starts, and is what its line says.
-use Rattle.std.proofs.Common.{◌≡◌, ℕ, ◌+◌, Bool, true, false, cond, ◌&&◌, eqb, ltb, leb, List, [], length, get_or, Some, None, Ok, Err, Option, Result, sym, refl, ap, ◌∙◌}
-use Rattle.nomination.specs.Lines.{Line, fields_of}
+use Rattle.std.proofs.Common.{◌≡◌, ℕ, ◌+◌, Bool, true, false, cond, ◌&&◌, ltb, leb, List, length, Some, None, Ok, Err, Option, Result, sym, refl, ap, ◌∙◌, arith}
+use Rattle.nomination.specs.Lines.{Line}
 use Rattle.nomination.specs.Marks.{place_of}
-use Rattle.nomination.specs.Parts.{part_of}
 use Rattle.nomination.specs.Reading.{line_at, record_of, stepped, next_of, line_values, answer_read, said_next}
-use Rattle.nomination.specs.Records.{RecordText, header, trade, matched, is_header, is_detail, header_text, detail_text, header_in, detail_in, or_bad_line, record_in}
+use Rattle.nomination.specs.Records.{RecordText, record_in}
 use Rattle.nomination.specs.Values.{RecordValues, onward, record_read}
 use Rattle.nomination.specs.declared.fault.TextFault.{TextFault}
-use Rattle.nomination.specs.declared.fault.TextFault.TheVariants.{TooLong, BadLine}
-
-abbrev read : ℕ → Option RecordText → Result RecordValues TextFault
-read n o = onward (or_bad_line n o) (record_read n)
-
-header_base : (n base : ℕ) (fs : List (List ℕ)) (b : Bool)
-    → read n (cond b (Some (header (header_text base fs))) None) ≡ read n (cond b (Some (header (header_text 0 fs))) None)
-header_base n base fs true = refl
-header_base n base fs false = refl
-
-match_base : (n base : ℕ) (fs : List (List ℕ)) (b : Bool)
-    → read n (cond b (Some (matched (detail_text base fs))) None) ≡ read n (cond b (Some (matched (detail_text 0 fs))) None)
-match_base n base fs true = refl
-match_base n base fs false = refl
-
-detail_base : (n base : ℕ) (fs : List (List ℕ)) (b : Bool)
-    → read n (cond b (Some (trade (detail_text base fs) (part_of base fs 6))) (cond (is_detail 50 (get_or fs 0 []) && eqb (length fs) 6) (Some (matched (detail_text base fs))) None))
-    ≡ read n (cond b (Some (trade (detail_text 0 fs) (part_of 0 fs 6))) (cond (is_detail 50 (get_or fs 0 []) && eqb (length fs) 6) (Some (matched (detail_text 0 fs))) None))
-detail_base n base fs true = refl
-detail_base n base fs false = match_base n base fs (is_detail 50 (get_or fs 0 []) && eqb (length fs) 6)
-
-kind_base : (n base : ℕ) (fs : List (List ℕ)) (b : Bool)
-    → read n (cond b (header_in base fs) (detail_in base fs)) ≡ read n (cond b (header_in 0 fs) (detail_in 0 fs))
-kind_base n base fs true = header_base n base fs (is_header (get_or fs 0 []) && eqb (length fs) 5)
-kind_base n base fs false = detail_base n base fs (is_detail 49 (get_or fs 0 []) && eqb (length fs) 7)
-
-ended_base : (n base : ℕ) (fs : List (List ℕ)) (b : Bool)
-    → onward (cond b (or_bad_line n (cond (eqb n 1) (header_in base fs) (detail_in base fs))) (Err (BadLine n))) (record_read n)
-    ≡ onward (cond b (or_bad_line n (cond (eqb n 1) (header_in 0 fs) (detail_in 0 fs))) (Err (BadLine n))) (record_read n)
-ended_base n base fs true = kind_base n base fs (eqb n 1)
-ended_base n base fs false = refl
+use Rattle.nomination.specs.declared.fault.TextFault.TheVariants.{TooLong}
 
 base_free : (n base : ℕ) (l : Line) → onward (record_in n base l) (record_read n) ≡ line_values n l
-base_free n base l = ended_base n base (fields_of l.bytes) l.ended
+base_free n base l = grind arith
 
 -- an answer of the reader, with the record read
 abbrev pub said_from : ℕ → Result (Option RecordText) TextFault × ℕ × ℕ → Result (Option RecordValues) TextFault × ℕ × ℕ

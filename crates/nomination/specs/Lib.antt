@@ -1,8 +1,13 @@
 pub mod Digits
 pub mod Faults
+pub mod FieldTexts
 pub mod Fields
+pub mod FieldsLeft
+pub mod Kinds
+pub mod LastDigits
 pub mod LineTexts
 pub mod Lines
+pub mod LinesSeen
 pub mod Longest
 pub mod Marks
 pub mod Parts

@@ -1,5 +1,6 @@
 -- A text as lines, and a line as fields.
 use Rattle.std.specs.Prelude.{ℕ, Bool, true, false, cond, List, [], ◌∷◌, ◌==◌}
+use Rattle.std.specs.List.{slice_split}
 
 -- A line: its bytes without byte 10, and whether byte 10 ends it.
 pub record Line : Type 0 where
@@ -16,12 +17,6 @@ unfoldable pub lines_of : List ℕ → List Line
 lines_of [] = []
 lines_of (b ∷ bs) = cond (b == 10) (record { ended = true; bytes = [] } ∷ lines_of bs) (longer b (lines_of bs))
 
--- One byte more in front of the first of some fields.
-abbrev pub wider : ℕ → List (List ℕ) → List (List ℕ)
-wider b [] = (b ∷ []) ∷ []
-wider b (f ∷ fs) = (b ∷ f) ∷ fs
-
--- The fields of a line: commas stand between them, so that there is one more than there are commas.
+-- The fields of a line: commas (byte 44) stand between them, so that there is one more than there are commas.
 unfoldable pub fields_of : List ℕ → List (List ℕ)
-fields_of [] = [] ∷ []
-fields_of (b ∷ bs) = cond (b == 44) ([] ∷ fields_of bs) (wider b (fields_of bs))
+fields_of bytes = slice_split (λ b. b == 44) bytes

@@ -4,8 +4,7 @@ use Rattle.energy.specs.Units.{kwh}
 use Rattle.book.specs.declared.filed_row.Flag.TheVariants.{Chp}
 use Rattle.nomination.specs.Texts.{line_text}
 use Rattle.nomination.specs.Values.{DetailValues, trading}
-use Rattle.nomination.specs.ValuesHeld.{values_said}
-use Rattle.nomination.specs.declared.values.Values.{Values}
+use Rattle.nomination.specs.ValuesHeld.{Values, values_said}
 
 -- A trade whose every field is as long as it can be.
 abbrev pub long_detail : DetailValues

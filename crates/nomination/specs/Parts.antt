@@ -1,5 +1,6 @@
 -- Parts of a text, with their places.
-use Rattle.std.specs.Prelude.{ℕ, zero, suc, ◌+◌, List, [], ◌∷◌, length, slice_index_or}
+use Rattle.std.specs.Prelude.{ℕ, ◌+◌, List, [], length, take, slice_index_or}
+use Rattle.std.specs.List.{sum_by}
 use Rattle.nomination.specs.declared.part.Part.{Part}
 
 -- A part of a text: its bytes, and the place at which it starts.
@@ -11,11 +12,9 @@ pub record TextPart : Type 0 where
 abbrev pub part_seen : Part → TextPart
 part_seen p = record { bytes = p.bytes.now; at = p.at }
 
--- Where a field of a line starts: behind those before it and their commas.
+-- Where a field of a line starts: behind those before it, each with its comma.
 abbrev pub start_of : List (List ℕ) → ℕ → ℕ
-start_of fs zero = 0
-start_of [] (suc k) = 0
-start_of (f ∷ fs) (suc k) = (length f + 1) + start_of fs k
+start_of fs k = sum_by (λ f. length f + 1) (take k fs)
 
 -- A field of a line that starts at a place of the text.
 abbrev pub part_of : ℕ → List (List ℕ) → ℕ → TextPart

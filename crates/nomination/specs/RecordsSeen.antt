@@ -7,8 +7,13 @@ use Rattle.nomination.specs.Records.{HeaderText, DetailText, RecordText, header,
 use Rattle.nomination.specs.declared.fault.TextFault.{TextFault}
 use Rattle.nomination.specs.declared.record.DetailParts.{DetailParts}
 use Rattle.nomination.specs.declared.record.HeaderParts.{HeaderParts}
-use Rattle.nomination.specs.declared.record.Record.{Record}
-use Rattle.nomination.specs.declared.record.Record.TheVariants.{Header, Trade, Match}
+use Rattle.nomination.specs.declared.part.Part.{Part}
+use Rattle.nomination.specs.declared.record.RecordOf.{RecordOf}
+use Rattle.nomination.specs.declared.record.RecordOf.TheVariants.{Heading, Trading, Matching}
+
+-- A record as parts of the text.
+abbrev pub Record : Type 0
+Record = RecordOf HeaderParts DetailParts Part
 
 abbrev pub header_seen : HeaderParts → HeaderText
 header_seen h =
@@ -19,9 +24,9 @@ detail_seen d =
     record { period = part_seen d.period; north = part_seen d.north; south = part_seen d.south; ns = part_seen d.ns; sn = part_seen d.sn }
 
 abbrev pub record_seen : Record → RecordText
-record_seen (Header h) = header (header_seen h)
-record_seen (Trade d flag) = trade (detail_seen d) (part_seen flag)
-record_seen (Match d) = matched (detail_seen d)
+record_seen (Heading h) = header (header_seen h)
+record_seen (Trading d flag) = trade (detail_seen d) (part_seen flag)
+record_seen (Matching d) = matched (detail_seen d)
 
 -- A record or a fault, as the record shows it.
 abbrev pub line_seen : Result Record TextFault → Result RecordText TextFault

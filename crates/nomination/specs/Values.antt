@@ -32,11 +32,13 @@ pub data RecordValues : Type 0 where
 abbrev pub first_header : List ℕ → ℕ → Option HeaderValues
 first_header code day = cond (nat_le day 99999999) (Some (record { version = 1; filer = code; date = day })) None
 
--- What a trade or match can say: a period from 1 to 99 and at most 9,999,999 kWh in each direction.
+-- A file can write a period from 1 to 99, and at most 9,999,999 kWh in each direction.
+abbrev pub is_writable : ℕ → Kwh → Kwh → Bool
+is_writable p x y = (nat_le 1 p && nat_le p 99) && (nat_le x.0 9999999 && nat_le y.0 9999999)
+
+-- What a trade or match can say.
 abbrev pub writable : ℕ → List ℕ → List ℕ → Kwh → Kwh → Option DetailValues
-writable p a b x y =
-    cond ((nat_le 1 p && nat_le p 99) && (nat_le x.0 9999999 && nat_le y.0 9999999))
-    (Some (record { period = p; north = a; south = b; ns = x; sn = y })) None
+writable p a b x y = cond (is_writable p x y) (Some (record { period = p; north = a; south = b; ns = x; sn = y })) None
 
 -- A field is read, or it is the first bad one of its line.
 abbrev pub field : {X Y : Type 0} → ℕ → ℕ → Option X → (X → Result Y TextFault) → Result Y TextFault

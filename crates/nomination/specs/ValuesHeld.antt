@@ -6,8 +6,13 @@ use Rattle.nomination.specs.Values.{HeaderValues, DetailValues, RecordValues, he
 use Rattle.nomination.specs.declared.detail.Detail.{Detail}
 use Rattle.nomination.specs.declared.fault.TextFault.{TextFault}
 use Rattle.nomination.specs.declared.header.Header.{Header}
-use Rattle.nomination.specs.declared.values.Values.{Values}
-use Rattle.nomination.specs.declared.values.Values.TheVariants.{Heading, Trading, Matching}
+use Rattle.book.specs.declared.filed_row.Flag.{Flag}
+use Rattle.nomination.specs.declared.record.RecordOf.{RecordOf}
+use Rattle.nomination.specs.declared.record.RecordOf.TheVariants.{Heading, Trading, Matching}
+
+-- The values of a record.
+abbrev pub Values : Type 0
+Values = RecordOf Header Detail Flag
 
 abbrev pub header_said : Header → HeaderValues
 header_said h = record { version = h.version; filer = code_text h.filer; date = h.date }

@@ -5,24 +5,21 @@ ghost use Rattle.nomination.specs.Fields.{amount_of, plain_of};
 use crate::digits::number;
 use energy::Kwh;
 
+// No TryFrom: `Kwh` is another crate's.
 /// The energy that an amount in MWh writes: a whole number, a point and three digits.
 pub fn read_amount(text: &[u8]) -> Option<Kwh>
     ensures { result ≡ amount_of text.now }
 {
-    let length = text.len();
-    if length < 5 || text[length - 4] != b'.' {
-        return None;
-    }
-    let whole = plain_number(&text[0..length - 4])?;
-    let rest = number(&text[length - 3..])?;
-    Some(Kwh(whole as u64 * 1000 + rest as u64))
+    let (whole, rest) = text.split_at(text.len().checked_sub(4)?);
+    let part = rest.strip_prefix(b".")?;
+    Some(Kwh(plain_number(whole)? as u64 * 1000 + number(part)? as u64))
 }
 
 /// The number that digits write with no needless leading zero.
 fn plain_number(digits: &[u8]) -> Option<u16>
     ensures { result ≡ plain_of digits.now }
 {
-    if digits.len() > 1 && digits[0] == b'0' {
+    if digits.len() > 1 && digits.starts_with(b"0") {
         return None;
     }
     number(digits)

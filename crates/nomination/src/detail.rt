@@ -6,7 +6,7 @@ use energy::{Kwh, PartyCode};
 mod calls;
 
 /// A period, a northern and a southern party, and the energy in both directions: at most 9,999,999 kWh each.
-#[derive(Clone, Copy)]
+#[derive(Clone, Copy, PartialEq, Eq, Debug)]
 pub struct Detail {
     pub(crate) period: u8,
     pub(crate) north: PartyCode,

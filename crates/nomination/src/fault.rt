@@ -13,7 +13,7 @@ pub enum TextFault {
     BadField { line: usize, field: u8 },
 }
 
-/// What is told of a fault: its number, line and field, 0 where it has none.
+/// What is told of a fault: its number, line and field, 0 where it has none: members read these numbers as they are printed.
 #[derive(Clone, Copy, PartialEq, Eq, Debug)]
 pub struct FaultReport {
     pub number: u8,

@@ -4,17 +4,16 @@ ghost use Rattle.nomination.specs.Fields.{flag_of, flag_letter};
 
 use book::Flag;
 
+// No TryFrom: `Flag` is another crate's.
 /// The flag that a field names: none for brown.
 pub fn read_flag(text: &[u8]) -> Option<Flag>
     ensures { result ≡ flag_of text.now }
 {
-    if text.len() == 0 {
-        return Some(Flag::Brown);
+    match text {
+        [] => Some(Flag::Brown),
+        [letter] => lettered(*letter as char),
+        _ => None,
     }
-    if text.len() > 1 {
-        return None;
-    }
-    lettered(text[0] as char)
 }
 
 /// The flag of a letter.

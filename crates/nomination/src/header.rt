@@ -6,7 +6,7 @@ use energy::PartyCode;
 mod calls;
 
 /// A file's version, the party that files it, and its date: eight digits, whether the calendar has it or not.
-#[derive(Clone, Copy)]
+#[derive(Clone, Copy, PartialEq, Eq, Debug)]
 pub struct Header {
     pub(crate) version: u16,
     pub(crate) filer: PartyCode,

@@ -1,12 +1,11 @@
 // The text of a line. The struct stands alone: what is said of it elsewhere names it.
-ghost use Rattle.std.specs.Prelude.{◌≤◌, length};
+use crate::longest::LONGEST_LINE;
+use arrayvec::ArrayString;
 
 mod calls;
 
-/// A line as it is written, byte 10 included: no line is longer than 36 bytes.
+/// A line as it is written, byte 10 included.
 #[derive(Clone, Copy)]
 pub struct LineText {
-    bytes: [u8; 36],
-    used: usize,
-    ghost within: { used ≤ length bytes },
+    text: ArrayString<LONGEST_LINE>,
 }

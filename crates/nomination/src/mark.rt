@@ -3,7 +3,7 @@ ghost use Rattle.std.specs.Prelude.{◌≡◌};
 ghost use Rattle.nomination.specs.Marks.{mark_byte, is_mark};
 
 /// What parts a text: a comma stands between two fields, byte 10 ends a line.
-#[derive(Clone, Copy)]
+#[derive(Clone, Copy, PartialEq, Eq, Debug)]
 pub enum Mark {
     Comma,
     LineEnd,
@@ -14,6 +14,7 @@ impl Mark {
     pub fn byte(self) -> u8
         ensures { result ≡ mark_byte self }
     {
+        // As discriminants the bytes would need casts, as `b',' as isize`.
         match self {
             Mark::Comma => b',',
             Mark::LineEnd => b'\n',
@@ -25,5 +26,5 @@ impl Mark {
 pub(crate) fn is_mark(byte: u8) -> bool
     ensures { result ≡ is_mark byte }
 {
-    byte == b',' || byte == b'\n'
+    matches!(byte, b',' | b'\n')
 }

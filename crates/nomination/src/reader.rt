@@ -5,7 +5,7 @@ mod calls;
 mod said;
 
 /// A text that is read line by line: the place of the next line, and its number from 1.
-#[derive(Clone, Copy)]
+#[derive(Clone, Copy, PartialEq, Eq, Debug)]
 pub struct LineReader<'a> {
     text: &'a [u8],
     at: usize,

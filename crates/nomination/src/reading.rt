@@ -16,12 +16,12 @@ pub fn read_values(parts: Record<'_>, line: usize) -> Result<Values, TextFault>
     ensures { said values_said result ≡ record_read line (record_seen parts.entry) }
 {
     match parts {
-        Record::Header(header) => Ok(Values::Heading(Header::read(header, line)?)),
-        Record::Trade(detail, flag) => {
+        Record::Heading(header) => Ok(Values::Heading(Header::read(header, line)?)),
+        Record::Trading(detail, flag) => {
             let detail = Detail::read(detail, line)?;
             let flag = read_flag(flag.bytes).ok_or(TextFault::BadField { line, field: 7 })?;
             Ok(Values::Trading(detail, flag))
         }
-        Record::Match(detail) => Ok(Values::Matching(Detail::read(detail, line)?)),
+        Record::Matching(detail) => Ok(Values::Matching(Detail::read(detail, line)?)),
     }
 }

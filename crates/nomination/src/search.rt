@@ -1,6 +1,6 @@
 // The search for the next mark.
-ghost use Rattle.std.specs.Prelude.{◌≡◌, ◌≤◌, length};
-ghost use Rattle.nomination.specs.Marks.{first_mark, place_of, mark_byte};
+ghost use Rattle.std.specs.Prelude.{◌≡◌, ◌==◌, position};
+ghost use Rattle.nomination.specs.Marks.{first_mark, is_mark, mark_byte};
 
 use crate::mark::{Mark, is_mark};
 
@@ -8,25 +8,27 @@ use crate::mark::{Mark, is_mark};
 pub fn next_mark(text: &[u8], from: usize) -> Option<usize>
     ensures { result ≡ first_mark text.now from }
 {
-    for i in from..text.len() {
-        if is_mark(text[i]) {
-            return Some(i);
-        }
-    }
-    None
+    Some(from + first_of(text.get(from..)?)?)
 }
 
-/// The place of the first such mark at or after a place, or the text's end.
-pub(crate) fn place_of(text: &[u8], mark: Mark, from: usize) -> usize
-    requires { from ≤ length text.now }
-    ensures { result ≡ place_of (mark_byte mark) text.now from }
+/// The place of the first mark in a text.
+fn first_of(text: &[u8]) -> Option<usize>
+    ensures { result ≡ position is_mark text.now }
 {
-    let mut at = from;
+    text.iter().position(|b| is_mark(*b))
+}
+
+/// The place of the first such mark in a text.
+pub(crate) fn find(text: &[u8], mark: Mark) -> Option<usize>
+    ensures { result ≡ position (λ b. b == mark_byte mark) text.now }
+{
+    // It goes from mark to mark, so that one search alone looks at the bytes.
+    let mut at = 0;
     while let Some(place) = next_mark(text, at) {
         if text[place] == mark.byte() {
-            return place;
+            return Some(place);
         }
         at = place + 1;
     }
-    text.len()
+    None
 }

@@ -3,7 +3,7 @@ ghost use Rattle.std.specs.Prelude.{◌≡◌};
 ghost use Rattle.std.specs.Option.{option_map};
 ghost use Rattle.energy.specs.PartyCodes.{code_text};
 ghost use Rattle.nomination.specs.RecordsSeen.{detail_seen};
-ghost use Rattle.nomination.specs.Values.{detail_read, writable};
+ghost use Rattle.nomination.specs.Values.{detail_read, is_writable, writable};
 ghost use Rattle.nomination.specs.ValuesHeld.{detail_said, said};
 
 use crate::amount::read_amount;
@@ -17,30 +17,20 @@ use energy::{Kwh, PartyCode};
 const LAST_PERIOD: u8 = 99;
 
 /// The most that an amount can be.
-const MOST_KWH: u64 = 9_999_999;
+const MOST_KWH: Kwh = Kwh(9_999_999);
 
 impl Detail {
     /// What the parts of a trade or match on a line say, or the first bad field.
     pub(crate) fn read(parts: DetailParts<'_>, line: usize) -> Result<Detail, TextFault>
         ensures { said detail_said result ≡ detail_read line (detail_seen parts.entry) }
     {
-        let period = read_period(parts.period.bytes).ok_or(TextFault::BadField { line, field: 2 })?;
-        let north = PartyCode::read(parts.north.bytes).ok_or(TextFault::BadField {
-            line,
-            field: 3,
-        })?;
-        let south = PartyCode::read(parts.south.bytes).ok_or(TextFault::BadField {
-            line,
-            field: 4,
-        })?;
-        let ns = read_amount(parts.ns.bytes).ok_or(TextFault::BadField { line, field: 5 })?;
-        let sn = read_amount(parts.sn.bytes).ok_or(TextFault::BadField { line, field: 6 })?;
+        let bad = |field| TextFault::BadField { line, field };
         Ok(Detail {
-            period,
-            north,
-            south,
-            ns,
-            sn,
+            period: read_period(parts.period.bytes).ok_or(bad(2))?,
+            north: PartyCode::read(parts.north.bytes).ok_or(bad(3))?,
+            south: PartyCode::read(parts.south.bytes).ok_or(bad(4))?,
+            ns: read_amount(parts.ns.bytes).ok_or(bad(5))?,
+            sn: read_amount(parts.sn.bytes).ok_or(bad(6))?,
         })
     }
 
@@ -48,16 +38,17 @@ impl Detail {
     pub fn new(period: u8, north: PartyCode, south: PartyCode, ns: Kwh, sn: Kwh) -> Option<Detail>
         ensures { option_map detail_said result ≡ writable period (code_text north) (code_text south) ns sn }
     {
-        if period < 1 || period > LAST_PERIOD || ns.0 > MOST_KWH || sn.0 > MOST_KWH {
-            return None;
+        if is_writable(period, ns, sn) {
+            Some(Detail {
+                period,
+                north,
+                south,
+                ns,
+                sn,
+            })
+        } else {
+            None
         }
-        Some(Detail {
-            period,
-            north,
-            south,
-            ns,
-            sn,
-        })
     }
 
     /// Its period.
@@ -94,4 +85,11 @@ impl Detail {
     {
         self.sn
     }
+}
+
+/// Whether a file can write these.
+fn is_writable(period: u8, ns: Kwh, sn: Kwh) -> bool
+    ensures { result ≡ is_writable period ns sn }
+{
+    (1..=LAST_PERIOD).contains(&period) && ns <= MOST_KWH && sn <= MOST_KWH
 }

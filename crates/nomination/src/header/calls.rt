@@ -20,22 +20,14 @@ impl Header {
     pub(crate) fn read(parts: HeaderParts<'_>, line: usize) -> Result<Header, TextFault>
         ensures { said header_said result ≡ header_read line (header_seen parts.entry) }
     {
+        let bad = |field| TextFault::BadField { line, field };
         if !is_file_type(parts.file_type.bytes) {
-            return Err(TextFault::BadField { line, field: 2 });
+            return Err(bad(2));
         }
-        let version = read_version(parts.version.bytes).ok_or(TextFault::BadField {
-            line,
-            field: 3,
-        })?;
-        let filer = PartyCode::read(parts.filer.bytes).ok_or(TextFault::BadField {
-            line,
-            field: 4,
-        })?;
-        let date = read_date(parts.date.bytes).ok_or(TextFault::BadField { line, field: 5 })?;
         Ok(Header {
-            version,
-            filer,
-            date,
+            version: read_version(parts.version.bytes).ok_or(bad(3))?,
+            filer: PartyCode::read(parts.filer.bytes).ok_or(bad(4))?,
+            date: read_date(parts.date.bytes).ok_or(bad(5))?,
         })
     }
 
@@ -79,5 +71,5 @@ impl Header {
 fn is_file_type(text: &[u8]) -> bool
     ensures { result ≡ is_type text.now }
 {
-    text.len() == 4 && text[0] == b'I' && text[1] == b'A' && text[2] == b'N' && text[3] == b'S'
+    text == b"IANS".as_slice()
 }

@@ -1,14 +1,15 @@
 // Reading a text line by line.
-ghost use Rattle.std.specs.Prelude.{◌≡◌};
-ghost use Rattle.nomination.specs.Reading.{next_of};
+ghost use Rattle.std.specs.Prelude.{◌≡◌, ◌≤◌, length};
+ghost use Rattle.nomination.specs.LinesSeen.{line_shown};
+ghost use Rattle.nomination.specs.Reading.{line_at, next_of};
 ghost use Rattle.nomination.specs.RecordsSeen.{answer_seen};
 
 use crate::fault::TextFault;
-use crate::line::read_record;
+use crate::line::TextLine;
 use crate::mark::Mark;
 use crate::reader::LineReader;
 use crate::record::Record;
-use crate::search::place_of;
+use crate::search::find;
 
 /// The most bytes that a text has.
 const LONGEST_TEXT: usize = 65_536;
@@ -35,14 +36,30 @@ impl<'a> LineReader<'a> {
         if self.text.len() > LONGEST_TEXT {
             return Err(TextFault::TooLong);
         }
-        if self.at >= self.text.len() && self.line > 1 {
+        if self.is_done() && self.line > 1 {
             return Ok(None);
         }
-        let end = place_of(self.text, Mark::LineEnd, self.at);
-        let ended = end < self.text.len();
-        let parts = read_record(&self.text[self.at..end], ended, self.at, self.line)?;
-        self.at = end + 1;
+        let line = self.next_line();
+        let record = line.record()?;
+        self.at += line.bytes.len() + 1;
         self.line += 1;
-        Ok(Some(parts))
+        Ok(Some(record))
+    }
+
+    /// The line that starts at its place, in a text that is not too long.
+    fn next_line(&self) -> TextLine<'a>
+        requires { length self.now.text.now ≤ 65536 }
+        ensures line { line_shown result ≡ line_at self.now.text.now self.now.at }
+        ensures at { result.at ≡ self.now.at }
+        ensures number { result.number ≡ self.now.line }
+    {
+        let rest = &self.text[self.at..];
+        let end = find(rest, Mark::LineEnd);
+        TextLine {
+            bytes: &rest[..end.unwrap_or(rest.len())],
+            ended: end.is_some(),
+            at: self.at,
+            number: self.line,
+        }
     }
 }

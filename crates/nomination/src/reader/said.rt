@@ -43,8 +43,5 @@ fn read_next(
 ) -> Result<Option<Values>, TextFault>
     ensures { said (option_map values_said) result ≡ answer_read line (answer_seen next.entry) }
 {
-    match next? {
-        Some(parts) => Ok(Some(read_values(parts, line)?)),
-        None => Ok(None),
-    }
+    next?.map(|record| read_values(record, line)).transpose()
 }
