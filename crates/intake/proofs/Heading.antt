@@ -112,16 +112,17 @@ used_most rows used =
 abbrev answered : List FiledRow → Result Taken FileFault → List FiledRow × Result Taken FileFault
 answered rows r = (rows, r)
 
--- the lines behind the header, taken with no more rows in use than there are
-pub file_done : (day : FileDay) (filer : List ℕ) (rows after : List FiledRow) (used u n at : ℕ) (text bytes : List ℕ) (r : Result Taken FileFault)
+-- the lines behind the header, taken into the book over the rows
+pub file_done : (day : FileDay) (filer : List ℕ) (rows begun after : List FiledRow) (used u n at : ℕ) (text bytes : List ℕ) (r : Result Taken FileFault)
     → ◌≡◌ {A = List FiledRow × Result Taken FileFault} (take (used_after u r) after, r)
-    (whole (take u rows) (take_lines day filer (space_of rows) n (take u rows) (lines_of (drop at text))))
-    → u ≡ min used (length rows) → n ≡ 2 → at ≡ place_of 10 bytes 0 + 1 → text ≡ bytes → Ok filer ≡ head_of day bytes
+    (whole (take u begun) (take_lines day filer (space_of begun) n (take u begun) (lines_of (drop at text))))
+    → begun ≡ rows → u ≡ min used (length rows) → n ≡ 2 → at ≡ place_of 10 bytes 0 + 1 → text ≡ bytes → Ok filer ≡ head_of day bytes
     → ◌≡◌ {A = List FiledRow × Result Taken FileFault} (take (used_after (min used (length rows)) r) after, r) (handed_in day (space_of rows) (take used rows) bytes)
-file_done day filer rows after used u n at text bytes r e most two there same head =
+file_done day filer rows begun after used u n at text bytes r e over most two there same head =
     let few = ap (λ (k : ℕ). take k rows) most ∙ used_most rows used in
     let all = file_granted day bytes (space_of rows) (take used rows) filer head in
     ap (λ (k : ℕ). answered (take (used_after k r) after) r) (sym most) ∙ e
+    ∙ ap (λ (held : List FiledRow). whole (take u held) (take_lines day filer (space_of held) n (take u held) (lines_of (drop at text)))) over
     ∙ ap (λ (fs : List FiledRow). whole fs (take_lines day filer (space_of rows) n fs (lines_of (drop at text)))) few
     ∙ ap (λ (m : ℕ). whole (take used rows) (take_lines day filer (space_of rows) m (take used rows) (lines_of (drop at text)))) two
     ∙ ap (λ (k : ℕ). whole (take used rows) (take_lines day filer (space_of rows) 2 (take used rows) (lines_of (drop k text)))) there

@@ -29,18 +29,19 @@ module _ (day : FileDay) (filer : List ℕ) (rows0 rows : List FiledRow) (used a
       ap (λ (k : ℕ). line_into day filer (min k 4096) n (take at rows) (line_at bytes pos)) long
       ∙ ap (λ (t : List ℕ). line_into day filer (space_of rows0) n (take at rows) (line_at t pos)) same
 
-  pub turn : (after : List FiledRow) (pos' n' : ℕ) → pos < length text
+  pub turn : (after : List FiledRow) (at' pos' n' : ℕ) → pos < length text
       → ◌≡◌ {A = List FiledRow × Result (Unit {0}) FileFault} (after, Ok tt) (noted rows at (line_into day filer (space_of rows) n (take at rows) (line_at bytes pos)))
-      → pos' ≡ place_of 10 bytes pos + 1 → n' ≡ n + 1
-      → (at + 1 ≤ length after) × (length after ≡ length rows0) × (take used after ≡ take used rows0)
-      × (take_lines day filer (space_of rows0) n' (take (at + 1) after) (lines_of (drop pos' text)) ≡ goal)
-  turn after pos' n' more e p q =
+      → at' ≡ at + 1 → pos' ≡ place_of 10 bytes pos + 1 → n' ≡ n + 1
+      → (used ≤ at') × (length after ≡ length rows0) × (take used after ≡ take used rows0)
+      × (take_lines day filer (space_of rows0) n' (take at' after) (lines_of (drop pos' text)) ≡ goal)
+  turn after at' pos' n' more e one p q =
       let s = step_taken day filer (space_of rows0) n rows after used at text pos low high (omega arith) more (e ∙ ap (noted rows at) line_same) in
       let there = p ∙ ap (λ (t : List ℕ). place_of 10 t pos + 1) same in (
         omega arith,
         omega arith,
         s.2 ∙ kept,
-        ap (λ (m : ℕ). take_lines day filer (space_of rows0) m (take (at + 1) after) (lines_of (drop pos' text))) q
+        ap (λ (k : ℕ). take_lines day filer (space_of rows0) n' (take k after) (lines_of (drop pos' text))) one
+            ∙ ap (λ (m : ℕ). take_lines day filer (space_of rows0) m (take (at + 1) after) (lines_of (drop pos' text))) q
             ∙ ap (λ (m : ℕ). take_lines day filer (space_of rows0) (n + 1) (take (at + 1) after) (lines_of (drop m text))) there
             ∙ sym s.3 ∙ so_far,
       )

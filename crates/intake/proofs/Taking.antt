@@ -3,13 +3,13 @@ use Rattle.std.proofs.Common.{◌≡◌, ℕ, ◌+◌, ◌<◌, ◌≤◌, Bool,
 use Rattle.std.proofs.lemmas.List.{at_drop_all, take_more_set, take-set-le, length-take-le}
 use Rattle.std.proofs.lemmas.Bool.{ltb-true}
 use Rattle.book.specs.Books.{place_under}
-use Rattle.book.specs.FiledRows.{filed_fit, filed_under}
+use Rattle.book.specs.FiledRows.{filed_fit, filed_key, filed_under}
 use Rattle.book.specs.declared.filed_row.FiledRow.{FiledRow}
 use Rattle.nomination.proofs.Lining.{lines_none, lines_more}
 use Rattle.nomination.specs.Lines.{Line, lines_of}
 use Rattle.nomination.specs.Marks.{place_of}
 use Rattle.nomination.specs.Reading.{line_at}
-use Rattle.intake.specs.Filing.{FileDay, carried, key_of, row_of, row_into, line_into, take_lines}
+use Rattle.intake.specs.Filing.{FileDay, carried, row_of, row_into, line_into, take_lines}
 use Rattle.intake.specs.Noting.{noted}
 use Rattle.intake.specs.declared.fault.BookFault.TheVariants.{KnownKey, BookFull}
 use Rattle.intake.specs.declared.fault.FileFault.{FileFault}
@@ -41,7 +41,7 @@ room space n filed row x false false e = absurd (let z : ◌≡◌ {A = ℕ} 0 1
 into_room : (space n : ℕ) (filed : List FiledRow) (o : Result FiledRow FileFault) (x : FiledRow) → row_into space n filed o ≡ Ok x → length filed < space
 into_room space n filed (Ok row) x e =
     ltb-true (length filed) space
-    (room space n filed row x (is_some (place_under filed_fit filed_under (key_of row) filed)) (ltb (length filed) space) e)
+    (room space n filed row x (is_some (place_under filed_fit filed_under (filed_key row) filed)) (ltb (length filed) space) e)
 into_room space n filed (Err f) x e = absurd (let z : ◌≡◌ {A = ℕ} 0 1 = cc in omega arith)
 
 module _ (day : FileDay) (filer : List ℕ) (space n : ℕ) (filed : List FiledRow) where

@@ -1,8 +1,7 @@
 -- The questions that a nomination file is asked.
 use Rattle.std.specs.Prelude.{ℕ, ◌+◌, false, cond, List, [], ◌∷◌, ◌++◌, length, drop, is_some, Some, None, Ok, Err, Option, Result, ◌==◌, nat_le, nat_lt, slice_index_or}
 use Rattle.book.specs.Books.{place_under}
-use Rattle.book.specs.FiledRows.{filed_fit, filed_under}
-use Rattle.book.specs.declared.filed_row.FiledKey.{FiledKey}
+use Rattle.book.specs.FiledRows.{filed_fit, filed_key, filed_under}
 use Rattle.book.specs.declared.filed_row.FiledKind.{FiledKind}
 use Rattle.book.specs.declared.filed_row.FiledKind.TheVariants.{Trade, Match}
 use Rattle.book.specs.declared.filed_row.FiledRow.{FiledRow}
@@ -83,13 +82,10 @@ row_said day filer n (matching d) = carried file.Register (registered day filer 
 unfoldable pub row_of : FileDay → List ℕ → ℕ → Line → Result FiledRow FileFault
 row_of day filer n l = carried file.Text (line_values n l) (row_said day filer n)
 
-abbrev pub key_of : FiledRow → FiledKey
-key_of row = record { filer = row.filer; kind = row.kind; period = row.period; north = row.north; south = row.south }
-
 -- An entry is the first under its key, among the rows in use, and there is space for it.
 abbrev pub admitted : ℕ → ℕ → List FiledRow → FiledRow → Result FiledRow BookFault
 admitted space n filed row =
-    cond (is_some (place_under filed_fit filed_under (key_of row) filed)) (Err (KnownKey n))
+    cond (is_some (place_under filed_fit filed_under (filed_key row) filed)) (Err (KnownKey n))
     (cond (nat_lt (length filed) space) (Ok row) (Err (BookFull n)))
 
 -- The row of a line goes on to the book.

@@ -1,3 +1,4 @@
+pub mod Asked
 pub mod Faults
 pub mod Filers
 pub mod Filing

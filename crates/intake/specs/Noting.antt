@@ -1,6 +1,5 @@
 -- A line's row behind the rows in use.
-use Rattle.std.specs.Prelude.{◌≡◌, ℕ, ◌+◌, ◌≤◌, true, cond, List, length, Some, None, Ok, Err, Option, Result, nat_lt, slice_set}
-use Rattle.book.specs.FiledRows.{filed_fit}
+use Rattle.std.specs.Prelude.{◌≡◌, ℕ, ◌+◌, ◌≤◌, cond, List, length, Some, None, Ok, Err, Option, Result, nat_lt, slice_set}
 use Rattle.book.specs.declared.filed_row.FiledRow.{FiledRow}
 use Rattle.nomination.specs.Marks.{place_of}
 use Rattle.nomination.specs.Reading.{line_at}
@@ -16,10 +15,10 @@ abbrev pub noted : {F : Type 0} → List FiledRow → ℕ → Result FiledRow F 
 noted rows used (Ok row) = (slice_set rows used row, Ok tt)
 noted rows used (Err fault) = (rows, Err fault)
 
--- A row that is granted stands for an entry.
-abbrev pub RowFit : {F : Type 0} → Result FiledRow F → Type 0
-RowFit (Ok row) = filed_fit row ≡ true
-RowFit (Err fault) = Unit {0}
+-- A row that is granted is one more in use.
+abbrev pub grown : {F : Type 0} → ℕ → Result (Unit {0}) F → ℕ
+grown used (Ok x) = used + 1
+grown used (Err fault) = used
 
 -- The row that line n files, from what the reader answers there; where there is no line, it is bad.
 abbrev pub row_from : FileDay → List ℕ → ℕ → Result (Option RecordValues) TextFault → Result FiledRow FileFault

@@ -1,46 +1,26 @@
 // The questions of a detail line that the book answers.
-ghost use Rattle.std.specs.Prelude.{◌≡◌, ◌≤◌, true, length, take};
-ghost use Rattle.book.specs.FiledRows.{filed_fit};
-ghost use Rattle.intake.specs.Filing.{key_of, admitted};
+ghost use Rattle.std.specs.Prelude.{◌≡◌};
+ghost use Rattle.book.specs.InUse.{in_use};
+ghost use Rattle.intake.specs.Filing.{admitted};
 ghost use Rattle.intake.specs.Intake.{space_of};
-ghost use Rattle.intake.specs.Noting.{noted};
+ghost use Rattle.intake.specs.Noting.{noted, grown};
 
 use crate::fault::BookFault;
-use book::{Book, FiledKey, FiledRow, Row};
+use book::{Book, FiledEntry, FiledRow, Row};
 
-/// The key of a row.
-fn key_of(row: FiledRow) -> FiledKey
-    ensures { result ≡ key_of row }
-{
-    FiledKey {
-        filer: row.filer,
-        kind: row.kind,
-        period: row.period,
-        north: row.north,
-        south: row.south,
-    }
-}
-
+// What a line leaves of the book is said in three clauses here and above: a fact of the type cannot tie exit to entry.
 /// Adds a line's entry behind the rows in use, where it is the first under its key and there is space.
 pub(crate) fn admit(
-    rows: &mut [FiledRow],
-    used: usize,
+    filed: &mut Book<'_, FiledRow>,
     line: usize,
-    row: FiledRow,
+    entry: FiledEntry,
 ) -> Result<(), BookFault>
-    requires within { used ≤ length rows.old }
-    requires fit { filed_fit row ≡ true }
-    ensures { (rows.new, result) ≡ noted rows.old used (admitted (space_of rows.old) line (take used rows.old) row) }
+    ensures rows { (filed.new.rows.now, result) ≡ noted filed.old.rows.now filed.old.used (admitted (space_of filed.old.rows.now) line (in_use filed.old) entry.row) }
+    ensures used { filed.new.used ≡ grown filed.old.used result }
+    ensures lender { filed.new.rows.ghost_name ≡ filed.old.rows.ghost_name }
 {
-    let mut filed = Book::over(rows, used);
-    if filed.find(key_of(row)).is_some() {
+    if filed.find(entry.row().key()).is_some() {
         return Err(BookFault::KnownKey { line });
     }
-    let Some(entry) = row.entry() else {
-        return unreachable();
-    };
-    match filed.add(entry) {
-        Ok(()) => Ok(()),
-        Err(_) => Err(BookFault::BookFull { line }),
-    }
+    filed.add(entry).map_err(|_| BookFault::BookFull { line })
 }

@@ -6,7 +6,7 @@ ghost use Rattle.intake.specs.declared.fault.FileFault.TheVariants.{Text, Regist
 use nomination::{FaultReport, TextFault};
 
 /// What the register says against a file; lines are counted from 1.
-#[derive(Clone, Copy)]
+#[derive(Clone, Copy, PartialEq, Eq, Debug)]
 pub enum RegisterFault {
     /// The header's party is not registered.
     UnknownFiler,
@@ -23,7 +23,7 @@ pub enum RegisterFault {
 }
 
 /// What the book says against a file.
-#[derive(Clone, Copy)]
+#[derive(Clone, Copy, PartialEq, Eq, Debug)]
 pub enum BookFault {
     /// The books are not as long as at opening.
     OtherLength,
@@ -36,7 +36,7 @@ pub enum BookFault {
 }
 
 /// Why a file is refused; a fault of a lower layer is carried whole.
-#[derive(Clone, Copy)]
+#[derive(Clone, Copy, PartialEq, Eq, Debug)]
 pub enum FileFault {
     Text(TextFault),
     Register(RegisterFault),
@@ -44,6 +44,7 @@ pub enum FileFault {
 }
 
 /// What a fault is a fault of.
+// The cases of `FileFault` again, without what they carry: members are told the layer by itself.
 #[derive(Clone, Copy, PartialEq, Eq, Debug)]
 pub enum Layer {
     Text,
@@ -51,6 +52,7 @@ pub enum Layer {
     Book,
 }
 
+// The reports of the layers stay numbers, as members read them, 0 where there is none.
 impl RegisterFault {
     /// The fault's number, line and field.
     pub fn report(self) -> FaultReport

@@ -2,9 +2,11 @@
 #![tactic(auto)]
 
 mod admit;
+mod asked_day;
 mod detail;
 mod fault;
 mod file;
+mod filing;
 mod header;
 mod lines;
 mod refusal;

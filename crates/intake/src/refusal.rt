@@ -6,16 +6,15 @@ ghost use Rattle.intake.specs.WriteRefusals.{write_number};
 #[derive(Clone, Copy, PartialEq, Eq, Debug)]
 pub enum WriteRefusal {
     /// The text would pass 65,536 bytes, or the buffer.
-    NoRoom,
+    NoRoom = 21,
 }
 
 impl WriteRefusal {
     /// The refusal's number.
+    // No trait over all refusals: each kind has its own definition, and the body is one cast.
     pub fn number(self) -> u8
         ensures { result ≡ write_number self }
     {
-        match self {
-            WriteRefusal::NoRoom => 21,
-        }
+        self as u8
     }
 }

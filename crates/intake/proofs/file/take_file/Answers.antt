@@ -1,4 +1,4 @@
-use Rattle.std.proofs.Common.{ℕ, ◌+◌, List, ap, ◌∙◌}
+use Rattle.std.proofs.Common.{rules, ℕ, ◌+◌, List, ap, ◌∙◌}
 use Rattle.std.proofs.lemmas.Result.{err_from_is_err_and}
 use Rattle.energy.specs.PartyCodes.{code_text}
 use Rattle.nomination.specs.Marks.{place_of}
@@ -25,6 +25,7 @@ returns c =
     let begun = c.over-reader.ensures.text in
     let took = c.in_ok-filer.ensures in
     let last = c.take_header.new.reader in
-    file_done day (code_text c.in_ok-filer.filer) rows c.take_lines.new.rows c.args.used c.min-used.result last.line last.at last.text.now bytes
-    c.take_lines.result c.take_lines.ensures c.min-used.ensures took.place.1 (took.place.0 ∙ ap (λ (t : List ℕ). place_of 10 t 0 + 1) begun)
-    (took.text ∙ begun) (took.filer ∙ ap (head_of day) begun)
+    let done = file_done day (code_text c.in_ok-filer.filer) rows c.over.result.rows.now c.take_lines.new.filed.rows.now c.args.used c.over.result.used last.line last.at last.text.now bytes
+    c.take_lines.result c.take_lines.ensures.answer c.over.ensures.rows c.over.ensures.used took.place.1 (took.place.0 ∙ ap (λ (t : List ℕ). place_of 10 t 0 + 1) begun)
+    (took.text ∙ begun) (took.filer ∙ ap (head_of day) begun) in
+    search rules
