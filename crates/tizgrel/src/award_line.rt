@@ -18,10 +18,12 @@ impl fmt::Display for AwardLine {
     ghost output = { λ line. Some (award_text line) };
 
     fn fmt<W: fmt::Write>(&self, f: &mut fmt::Formatter<W>) -> fmt::Result {
-        let place = self.place;
-        let claim = self.claim;
-        let share = self.share;
-        let award = self.award;
+        let AwardLine {
+            place,
+            claim,
+            share,
+            award,
+        } = *self;
         write!(
             f,
             "claim {place}: {claim}, exact share {share}, award {award}"

@@ -4,15 +4,20 @@ ghost use Rattle.tizgrel.specs.Names.{register_chosen, running_chosen};
 ghost use Rattle.tizgrel.specs.Numbers.{whole_number};
 
 use crate::complaint::Complaint;
-use crate::number::{NumberFault, whole_number};
+use crate::number::whole_number;
 use energy::Kwh;
 use rationing::{ChosenRule, RegisterRule, RunningRule};
 use std::alloc::Global;
 
+/// What the words ask for.
 #[derive(Drop)]
 pub enum Command {
     Help,
-    Ration(ChosenRule, Kwh, Vec<Kwh>),
+    Ration {
+        rule: ChosenRule,
+        amount: Kwh,
+        claims: Vec<Kwh>,
+    },
 }
 
 pub(crate) fn read_command(heap: Global, words: &[String]) -> Result<Command, Complaint> {
@@ -31,19 +36,19 @@ fn read_ration(heap: Global, words: &[String]) -> Result<Command, Complaint> {
     let [name, rest @ ..] = words else {
         return Err(Complaint::NoRule);
     };
-    let rule = read_rule(name)?;
+    let Some(rule) = rule_named(name.as_str()) else {
+        return Err(Complaint::UnknownRule(name.clone()?));
+    };
     let [amount, claims @ ..] = rest else {
         return Err(Complaint::NoAmount);
     };
     let amount = read_kwh(amount)?;
-    Ok(Command::Ration(rule, amount, read_claims(heap, claims)?))
-}
-
-fn read_rule(word: &String) -> Result<ChosenRule, Complaint> {
-    match rule_named(word.as_str()) {
-        Some(rule) => Ok(rule),
-        None => Err(Complaint::UnknownRule(word.clone()?)),
-    }
+    let claims = claims.iter().map(read_kwh).try_collect(heap)?;
+    Ok(Command::Ration {
+        rule,
+        amount,
+        claims,
+    })
 }
 
 /// The rule of that name.
@@ -63,17 +68,9 @@ fn rule_named(word: &str) -> Option<ChosenRule>
 fn read_kwh(word: &String) -> Result<Kwh, Complaint>
     ensures { IfOk result (λ energy. whole_number (string_bytes word.now) ≡ Ok energy.0) }
 {
+    // By match: `try_map_err(|fault| Ok(Complaint::NotANumber(word.clone()?, fault)))` says no more.
     match whole_number(word.as_str()) {
         Ok(number) => Ok(Kwh(number)),
-        Err(NumberFault::NotDigits) => Err(Complaint::NotANumber(word.clone()?)),
-        Err(NumberFault::TooLarge) => Err(Complaint::NumberTooLarge(word.clone()?)),
+        Err(fault) => Err(Complaint::NotANumber(word.clone()?, fault)),
     }
-}
-
-fn read_claims(heap: Global, words: &[String]) -> Result<Vec<Kwh>, Complaint> {
-    let mut claims = Vec::new(heap);
-    for word in words {
-        claims.push(read_kwh(word)?)?;
-    }
-    Ok(claims)
 }

@@ -41,12 +41,11 @@ fn run(rt: &HostRuntime) -> Result<(), Complaint> {
     let words: Vec<String> = env::args(rt)?.skip(1).collect(heap)?;
     match read_command(heap, words.as_slice())? {
         Command::Help => rt.println(USAGE)?,
-        Command::Ration(rule, amount, claims) => print_ration(
-            rt,
-            &rule,
+        Command::Ration {
+            rule,
             amount,
-            claims.as_slice(),
-        )?,
+            claims,
+        } => print_ration(rt, &rule, amount, claims.as_slice())?,
     }
     Ok(())
 }

@@ -3,10 +3,14 @@ ghost use Rattle.std.specs.Prelude.{◌≡◌};
 ghost use Rattle.tizgrel.specs.Numbers.{whole_number};
 ghost use Rattle.std.specs.Str.{all_ascii_digits};
 
+use thiserror::Error;
+
 /// Why a word is no number that a call can take.
-#[derive(Clone, Copy)]
+#[derive(Clone, Copy, PartialEq, Eq, Debug, Error)]
 pub enum NumberFault {
+    #[error("not a whole number")]
     NotDigits,
+    #[error("not below 2^64")]
     TooLarge,
 }
 
@@ -17,19 +21,11 @@ pub fn whole_number(word: &str) -> Result<u64, NumberFault>
     if word.is_empty() || !all_digits(word.as_bytes()) {
         return Err(NumberFault::NotDigits);
     }
-    match word.parse::<u64>() {
-        Ok(number) => Ok(number),
-        Err(_) => Err(NumberFault::TooLarge),
-    }
+    word.parse().map_err(|_| NumberFault::TooLarge)
 }
 
 fn all_digits(bytes: &[u8]) -> bool
     ensures { result ≡ all_ascii_digits bytes.now }
 {
-    for b in bytes {
-        if !b.is_ascii_digit() {
-            return false;
-        }
-    }
-    true
+    bytes.iter().all(|b| b.is_ascii_digit())
 }

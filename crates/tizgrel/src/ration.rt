@@ -31,10 +31,7 @@ fn share_out<R: RationingRule>(
     ensures written { out.new ≡ (if admits claims.now (length out.old) then R.awards rule.now amount claims.now else out.old) }
 {
     rule.ration(amount, claims, out)?;
-    let Some(sum) = total(claims) else {
-        unreachable()
-    };
-    Ok(sum)
+    Ok(total(claims).unwrap())
 }
 
 fn print_awards(

@@ -28,7 +28,7 @@ fn parties() -> Register {
 
 /// What 15 October 2004, a day of 48 periods, says to a text: 0, rows in use and lines; or number, line and field.
 fn told(text: &str, files: u32, rows: &mut [FiledRow], used: usize) -> (u8, usize, usize, Layer) {
-    let Some(date) = Date::from_number(2004_10_15) else {
+    let Ok(date) = Date::try_from(2004_10_15) else {
         return (1, 0, 0, Layer::Text);
     };
     let terms = FileTerms {

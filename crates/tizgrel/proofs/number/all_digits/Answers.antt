@@ -1,27 +1,17 @@
-use Rattle.std.proofs.Common.{◌+◌, Bool, ◌&&◌, get_or, drop, sym, ap, ◌∙◌}
-use Rattle.std.proofs.lemmas.List.{at_drop_more, at_drop_all}
-use Rattle.std.proofs.lemmas.Bool.{and_left}
+use Rattle.std.proofs.Common.{◌≡◌, ℕ, Bool, ◌&&◌, List, [], ◌∷◌, refl, ap, ◌∙◌, rules, tests}
+use Rattle.std.proofs.lemmas.Iterator.{YieldsList-from_slice}
+use Rattle.std.proofs.lemmas.Iterator.Search.{all_from_yields_List}
 use Rattle.std.specs.Char.{is_ascii_digit}
+use Rattle.std.specs.List.{list_all}
 use Rattle.std.specs.Str.{all_ascii_digits}
 use Rattle.tizgrel.proofs.number.all_digits.Goals as goal
 
-pub returns-then-not-is_ascii_digit : goal.returns-then-not-is_ascii_digit
-returns-then-not-is_ascii_digit c =
-    let bytes = c.args.bytes.now in
-    let i = c.loop-b.b-index in
-    let next = at_drop_more all_ascii_digits bytes i 0 c.loop-b-test.true in
-    let bad = c.if-not-is_ascii_digit.ensures.value in
-    sym (sym c.loop-b.invariant ∙ next ∙ and_left (is_ascii_digit (get_or bytes i 0)) (all_ascii_digits (drop (i + 1) bytes)) (sym bad))
-
-pub loop-b-preserved : goal.loop-b-preserved
-loop-b-preserved c =
-    let bytes = c.args.bytes.now in
-    let i = c.loop-b.b-index in
-    let next = at_drop_more all_ascii_digits bytes i 0 c.loop-b-test.true in
-    let good = c.if-not-is_ascii_digit.ensures.value in
-    ap (λ (t : Bool). t && all_ascii_digits (drop (i + 1) bytes)) good ∙ sym next ∙ c.loop-b.invariant
+-- the test of each byte is the test of all
+same_test : (bytes : List ℕ) → list_all is_ascii_digit bytes ≡ all_ascii_digits bytes
+same_test [] = refl
+same_test (b ∷ bs) = ap (λ (t : Bool). is_ascii_digit b && t) (same_test bs)
 
 pub returns : goal.returns
 returns c =
-    let end = at_drop_all all_ascii_digits c.args.bytes.now c.loop-b.b-index c.loop-b-test.false in
-    sym end ∙ c.loop-b.invariant
+    all_from_yields_List is_ascii_digit _ _ _ c.all.ensures.ran (YieldsList-from_slice c.args.bytes.now cc) (λ x b q k. search (rules, tests))
+    ∙ same_test c.args.bytes.now
