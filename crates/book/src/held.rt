@@ -5,6 +5,7 @@ mod calls;
 mod size;
 
 /// Rows that a caller lends, the first of them in use.
+// Over a lent slice, and no Vec: the caller keeps the rows, and a book needs no heap.
 #[derive(Drop)]
 pub struct Book<'a, R> {
     rows: &'a mut [R],

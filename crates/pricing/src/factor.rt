@@ -4,6 +4,7 @@ ghost use Rattle.pricing.specs.Factors.{place_in, factor_of, factor_in};
 
 use calendar::{FactorColumn, Period, Row, TradingDay, table_row};
 
+// A constant, over which range and bands are proved once.
 /// The factors in tenths: a line for each row from 1 on, with the columns in the order of `FactorColumn`.
 const FACTORS: [[u8; 6]; 48] = [
     [10, 10, 10, 10, 10, 10],

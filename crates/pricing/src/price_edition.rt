@@ -12,6 +12,7 @@ use calendar::{Period, TradingDay};
 use energy::{Kwh, Micropence, Rate};
 
 /// An edition of the prices of spill and makeup.
+// Each edition repeats the parameters of the two calls: they are the one interface of all editions.
 pub trait PriceEdition {
     /// What a spill is paid, by the day, the base, the local nomination and the spill.
     ghost spill_amount: { Self → TradingDay → Kwh → Kwh → Kwh → Micropence };

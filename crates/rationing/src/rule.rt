@@ -8,6 +8,7 @@ use crate::refusal::RationingRefusal;
 use energy::Kwh;
 
 /// A way to share an amount out among claims in whole kWh.
+// Each rule repeats the parameters of the call: they are the one interface of all rules.
 pub trait RationingRule {
     /// The awards that answer an amount and a list of claims: the meaning of the rule.
     ghost awards: { Self → Kwh → List Kwh → List Kwh };

@@ -39,6 +39,7 @@ impl RegistrationRefusal {
 
 impl AssignmentRefusal {
     /// The number under which members know the refusal.
+    // By a cast of its own, as above.
     pub fn number(self) -> u8
         ensures { result ≡ assignment_number self }
     {
