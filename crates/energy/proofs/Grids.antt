@@ -8,6 +8,9 @@ use Rattle.energy.specs.Grids.{sum_to, listed, figure_at}
 use Rattle.energy.specs.Totals.{sum_kwh}
 use Rattle.energy.specs.Units.{kwh}
 
+pub sum_to_more : (n : ℕ) (f : ℕ → ℕ) → sum_to (n + 1) f ≡ sum_to n f + f n
+sum_to_more n f = ap (λ (m : ℕ). sum_to m f) (add-one n)
+
 pub sum_to_le : (n : ℕ) (f g : ℕ → ℕ) → ((k : ℕ) → k < n → f k ≤ g k) → sum_to n f ≤ sum_to n g
 sum_to_le zero f g h = omega arith
 sum_to_le (suc n) f g h = omega (arith, sum_to_le n f g (λ k j. h k (omega arith)), h n (omega arith))

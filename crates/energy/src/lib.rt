@@ -1,11 +1,12 @@
 // Units, sides, directions and party codes, and the one routine that adds up kWh figures.
 #![tactic(auto)]
 
-mod direction;
-mod figure;
-mod party_code;
-mod side;
-mod unit;
+// The modules are public beside the names that the root passes on: callers may use either path.
+pub mod direction;
+pub mod figure;
+pub mod party_code;
+pub mod side;
+pub mod unit;
 
 pub use direction::Direction;
 pub use figure::{EnergyFigure, total};

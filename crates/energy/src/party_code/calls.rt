@@ -2,7 +2,7 @@
 ghost use Rattle.std.specs.Prelude.{◌≡◌};
 ghost use Rattle.std.specs.List.{list_all};
 ghost use Rattle.std.specs.Option.{option_map};
-ghost use Rattle.energy.specs.Codes.{code_char, code_read, first_four};
+ghost use Rattle.energy.specs.Codes.{code_char, code_read, same_code, first_four};
 ghost use Rattle.energy.specs.PartyCodes.{code_text};
 
 use crate::party_code::PartyCode;
@@ -26,6 +26,13 @@ impl PartyCode {
         ensures { first_four result ≡ code_text self }
     {
         self.chars
+    }
+
+    /// Whether it is the same code as another: `==`, in the words of the definition.
+    pub fn is(self, other: PartyCode) -> bool
+        ensures { result ≡ same_code (code_text self) (code_text other) }
+    {
+        self == other
     }
 }
 
