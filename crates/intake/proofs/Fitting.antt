@@ -35,7 +35,7 @@ pub number_few : (ps : Parties) → sides_few ps ≡ true → (s : Side) (text :
 number_few ps few s text k e =
     omega (arith, place_below 0 k text (codes_of (on s ps)) e, codes_length (on s ps), side_few ps few s)
 
-row_fit : (x : FiledRow) → x.north ≤ 15 → x.south ≤ 15 → x.ns.0 ≤ 9999999 → x.sn.0 ≤ 9999999 → filed_fit x ≡ true
+pub row_fit : (x : FiledRow) → x.north ≤ 15 → x.south ≤ 15 → x.ns.0 ≤ 9999999 → x.sn.0 ≤ 9999999 → filed_fit x ≡ true
 row_fit x north south ns sn = grind (arith, nat_tests)
 
 -- a line of registered parties, the filer among them, is refused where the day has not its period

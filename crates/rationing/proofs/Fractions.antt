@@ -14,7 +14,7 @@ abbrev share : Kwh → ℕ → ℕ → ExactShare
 share w n d = record { whole = w; numerator = n; denominator = d }
 
 module _ (r s g : ℕ) (some : 0 < s) (common : IsGcd r s g) where
-  common_some : 0 < g
+  pub common_some : 0 < g
   common_some = pos_of_dvd_of_pos common.1 some
 
   numerator_is : r / g * g ≡ r

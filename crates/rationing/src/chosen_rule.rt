@@ -12,7 +12,7 @@ use energy::Kwh;
 
 /// One of the rules that stand ready.
 // A closed set, which the call matches: a `dyn RationingRule` would not say which rules stand ready.
-#[derive(Clone, Copy)]
+#[derive(Clone, Copy, PartialEq, Eq, Debug)]
 pub enum ChosenRule {
     Register(RegisterRule),
     Running(RunningRule),

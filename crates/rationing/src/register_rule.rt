@@ -9,7 +9,7 @@ use energy::Kwh;
 
 /// Rounds every share down, then gives one kWh each to the first claims whose division left a
 /// remainder, until the amount is used.
-#[derive(Clone, Copy)]
+#[derive(Clone, Copy, PartialEq, Eq, Debug)]
 pub struct RegisterRule;
 
 impl Dividing for RegisterRule {

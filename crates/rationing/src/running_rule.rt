@@ -7,7 +7,7 @@ use crate::uncovered::Uncovered;
 use energy::Kwh;
 
 /// Gives each claim the part of the amount up to and with it, rounded down, less the part up to it.
-#[derive(Clone, Copy)]
+#[derive(Clone, Copy, PartialEq, Eq, Debug)]
 pub struct RunningRule;
 
 impl Dividing for RunningRule {
