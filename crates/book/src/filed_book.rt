@@ -1,6 +1,6 @@
 // Filed entries as a kind of row of a book.
-ghost use Rattle.std.proofs.Common.{rules};
 ghost use Rattle.book.specs.FiledRows.{filed_fit, filed_key, filed_under, filed_most};
+ghost use Rattle.book.specs.Keyed.{filed_keyed};
 
 use crate::entry::Entry;
 use crate::filed_row::{FiledKey, FiledRow};
@@ -35,7 +35,7 @@ impl Row for FiledRow {
 impl Keyed for FiledRow {
     ghost key_of = { filed_key };
 
-    ghost keyed = { Prim.search rules };
+    ghost keyed = { filed_keyed };
 
     fn key(&self) -> FiledKey {
         FiledKey {

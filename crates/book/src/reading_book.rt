@@ -1,6 +1,6 @@
 // Readings as a kind of row of a book.
-ghost use Rattle.std.proofs.Common.{rules};
 ghost use Rattle.book.specs.ReadingRows.{reading_fit, reading_key, reading_under, reading_most};
+ghost use Rattle.book.specs.Keyed.{reading_keyed};
 
 use crate::entry::Entry;
 use crate::keyed::Keyed;
@@ -35,7 +35,7 @@ impl Row for ReadingRow {
 impl Keyed for ReadingRow {
     ghost key_of = { reading_key };
 
-    ghost keyed = { Prim.search rules };
+    ghost keyed = { reading_keyed };
 
     fn key(&self) -> ReadingKey {
         ReadingKey {
