@@ -3,4 +3,5 @@ pub mod Faults
 pub mod Figures
 pub mod FiledRows
 pub mod InUse
+pub mod Keyed
 pub mod ReadingRows

@@ -10,7 +10,7 @@ mod calls;
 #[derive(Copy)]
 pub struct Entry<R: Row> {
     pub(crate) row: R,
-    ghost sound: { R.fit row ≡ true },
+    pub ghost sound: { R.fit row ≡ true },
 }
 
 // By hand, since a derive is refused here over the ghost field.

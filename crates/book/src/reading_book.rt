@@ -1,8 +1,9 @@
 // Readings as a kind of row of a book.
-ghost use Rattle.std.proofs.Common.{rules};
 ghost use Rattle.book.specs.ReadingRows.{reading_fit, reading_key, reading_under, reading_most};
+ghost use Rattle.book.specs.Keyed.{reading_keyed};
 
 use crate::entry::Entry;
+use crate::keyed::Keyed;
 use crate::reading_row::{ReadingKey, ReadingRow};
 use crate::row::Row;
 
@@ -17,18 +18,24 @@ impl Row for ReadingRow {
 
     ghost fit = { reading_fit };
 
-    ghost key_of = { reading_key };
-
     ghost under = { reading_under };
 
     ghost MOST = { reading_most };
-
-    ghost keyed = { Prim.search rules };
 
     // The check is the row's own method, which is asked without the trait too.
     fn is_fit(&self) -> bool {
         self.passes()
     }
+
+    fn is_under(&self, key: &ReadingKey) -> bool {
+        self.key() == *key
+    }
+}
+
+impl Keyed for ReadingRow {
+    ghost key_of = { reading_key };
+
+    ghost keyed = { reading_keyed };
 
     fn key(&self) -> ReadingKey {
         ReadingKey {

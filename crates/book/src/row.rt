@@ -7,16 +7,13 @@ use crate::entry::Entry;
 
 /// A plain row of a book. It stands for an entry where it passes its kind's check.
 pub trait Row: Copy {
-    type Key: Copy + PartialEq;
+    type Key: Copy;
 
     /// How many rows a book of this kind uses at most.
     const MOST: usize;
 
     /// Whether a row stands for an entry.
     ghost fit: { Self → Bool };
-
-    /// The key of a row.
-    ghost key_of: { Self → Self.Key };
 
     /// Whether a row is under a key.
     ghost under: { Self → Self.Key → Bool };
@@ -28,9 +25,9 @@ pub trait Row: Copy {
     fn is_fit(&self) -> bool
         ensures { result ≡ fit self.now };
 
-    /// The key of the row.
-    fn key(&self) -> Self::Key
-        ensures { result ≡ key_of self.now };
+    /// Whether the row is under this key.
+    fn is_under(&self, key: &Self::Key) -> bool
+        ensures { result ≡ under self.now key.now };
 
     /// The entry that the row stands for, if it stands for one.
     fn entry(&self) -> Option<Entry<Self>>
@@ -41,15 +38,5 @@ pub trait Row: Copy {
         } else {
             None
         }
-    }
-
-    /// A row is under the keys that equal its own.
-    ghost keyed: { (x : Self) (k : Self.Key) → Self.Key.eq (key_of x) k ≡ under x k };
-
-    /// Whether the row is under this key.
-    final fn is_under(&self, key: &Self::Key) -> bool
-        ensures { result ≡ under self.now key.now }
-    {
-        self.key() == *key
     }
 }

@@ -6,7 +6,7 @@ ghost use Rattle.intake.specs.Intake.{space_of};
 ghost use Rattle.intake.specs.Noting.{noted, grown};
 
 use crate::fault::BookFault;
-use book::{Book, FiledEntry, FiledRow, Row};
+use book::{Book, FiledEntry, FiledRow, Keyed};
 
 // What a line leaves of the book is said in three clauses here and above: a fact of the type cannot tie exit to entry.
 /// Adds a line's entry behind the rows in use, where it is the first under its key and there is space.

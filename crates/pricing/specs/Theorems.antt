@@ -18,7 +18,7 @@ use Rattle.pricing.specs.Money.{micropence, millipence}
 use Rattle.pricing.specs.Spills.{fourth_spill}
 use Rattle.pricing.specs.declared.limited.TheConstants.{MOST_ENERGY, MOST_SHORTAGE, MOST_RATE}
 
--- The types of energies, shortages and rates have the limits that these are priced up to.
+-- The constants that energies, shortages and rates are limited by are the limits that these are priced up to.
 abbrev pub LimitsKept : Type 0
 LimitsKept = (MOST_ENERGY ≡ most_energy) × (MOST_SHORTAGE ≡ most_shortage) × (MOST_RATE ≡ most_rate)
 

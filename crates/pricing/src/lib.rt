@@ -25,4 +25,4 @@ pub use limited::{Limited, PricedEnergy, PricedRate, Shortage};
 pub use makeup::Makeup;
 pub use price_edition::PriceEdition;
 pub use spill::Spilled;
-pub use theorems::prices_stand;
+pub use theorems::{prices_stand, within_limits};
