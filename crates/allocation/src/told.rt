@@ -14,8 +14,8 @@ impl Cell {
         ensures { result.0 ≡ told_ns self.now }
     {
         alike(
-            self.north_trade.map(|row| row.ns),
-            self.south_trade.map(|row| row.ns),
+            self.north_trade.map(|amounts| amounts.ns),
+            self.south_trade.map(|amounts| amounts.ns),
         )
     }
 
@@ -24,8 +24,8 @@ impl Cell {
         ensures { result.0 ≡ told_sn self.now }
     {
         alike(
-            self.north_trade.map(|row| row.sn),
-            self.south_trade.map(|row| row.sn),
+            self.north_trade.map(|amounts| amounts.sn),
+            self.south_trade.map(|amounts| amounts.sn),
         )
     }
 
