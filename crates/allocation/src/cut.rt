@@ -32,8 +32,15 @@ impl<R: RationingRule> Cut<'_, R> {
         array::from_fn(
             |i|
                 requires { i < 16 }
-                ensures { figure_at result ≡ award (R.awards self.entry.now.rule.now) (figure_at grants i) self.entry.now.table.now.receivers (grid_at self.entry.now.table.now.trade i) }
-            { self.given_by(i, grants[i]) },
+                ensures { i < self.entry.now.table.now.senders → figure_at result ≡ award (R.awards self.entry.now.rule.now) (figure_at grants i) self.entry.now.table.now.receivers (grid_at self.entry.now.table.now.trade i) }
+            {
+                // The rule is asked for registered senders alone.
+                if i < self.table.senders {
+                    self.given_by(i, grants[i])
+                } else {
+                    [Kwh(0); 16]
+                }
+            },
         )
     }
 
