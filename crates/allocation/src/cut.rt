@@ -105,8 +105,22 @@ impl<R: RationingRule> Cut<'_, R> {
         requires { IsRow held.now (kept (R.awards self.now.rule.now) (way_of self.now.table.now)) }
         ensures { result.0 ≡ left (R.awards self.now.rule.now) (way_of self.now.table.now) self.now.against.0 }
     {
-        Kwh(self.table.ntc.0 + self.against.0 - sum_of(&held[..self.table.senders]).0)
+        rest_of(
+            self.table.ntc,
+            self.against,
+            sum_of(&held[..self.table.senders]),
+        )
     }
+}
+
+/// What is left of the net transfer capacity and the trade against the flow, past what is held.
+fn rest_of(ntc: Kwh, against: Kwh, held: Kwh) -> Kwh
+    requires within { held.0 ≤ ntc.0 + against.0 }
+    requires capacity { ntc.0 ≤ 2147483647500 }
+    requires small { against.0 ≤ 2559999744 }
+    ensures { result.0 ≡ (ntc.0 + against.0) - held.0 }
+{
+    Kwh(ntc.0 + against.0 - held.0)
 }
 
 /// Two rows, added.
