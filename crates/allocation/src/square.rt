@@ -17,20 +17,17 @@ pub fn square_of<F: Fn(usize, usize) -> Kwh>(figure: F) -> Square
     ensures inside { (i j : ℕ) → i < 16 → j < 16 → F.post figure i j (kwh (grid_at result i j)) }
     ensures outside { (i j : ℕ) → (16 ≤ i) ⊎ (16 ≤ j) → grid_at result i j ≡ 0 }
 {
-    array::from_fn(
-        |i|
-            requires { (j : ℕ) → j < 16 → F.pre figure i j }
-            ensures inside { (j : ℕ) → j < 16 → F.post figure i j (kwh (figure_at result j)) }
-            ensures outside { (j : ℕ) → 16 ≤ j → figure_at result j ≡ 0 }
-        {
-            array::from_fn(
-                |j|
-                    requires { F.pre figure i j }
-                    ensures { F.post figure i j result }
-                { figure(i, j) },
-            )
-        },
-    )
+    // A loop over the rows: `from_fn` would copy the whole square three times.
+    let mut grid = [[Kwh(0); 16]; 16];
+    for i in 0..16 {
+        grid[i] = array::from_fn(
+            |j|
+                requires { F.pre figure i j }
+                ensures { F.post figure i j result }
+            { figure(i, j) },
+        );
+    }
+    grid
 }
 
 /// The figures with senders and receivers exchanged.
