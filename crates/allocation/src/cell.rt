@@ -23,21 +23,19 @@ pub struct Cell {
 }
 
 impl Cell {
-    /// The cell with a row's amounts in the row's place.
-    pub fn with(self, row: &FiledRow) -> Cell
-        ensures { result ≡ put row.now self }
+    /// Files a row's amounts in the row's place.
+    pub fn file(&mut self, row: &FiledRow)
+        ensures { self.new ≡ put row.now self.old }
     {
         let amounts = Some(Amounts {
             ns: row.ns,
             sn: row.sn,
         });
-        let mut cell = self;
         match (row.kind, row.filer) {
-            (FiledKind::Trade, Side::Northern) => cell.north_trade = amounts,
-            (FiledKind::Trade, Side::Southern) => cell.south_trade = amounts,
-            (FiledKind::Match, Side::Northern) => cell.north_match = amounts,
-            (FiledKind::Match, Side::Southern) => cell.south_match = amounts,
+            (FiledKind::Trade, Side::Northern) => self.north_trade = amounts,
+            (FiledKind::Trade, Side::Southern) => self.south_trade = amounts,
+            (FiledKind::Match, Side::Northern) => self.north_match = amounts,
+            (FiledKind::Match, Side::Southern) => self.south_match = amounts,
         }
-        cell
     }
 }

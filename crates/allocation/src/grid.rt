@@ -17,7 +17,7 @@ pub fn file_rows(cells: &mut [[Cell; 16]; 16], rows: &[FiledRow], period: u8)
         if stands_in(row, period) {
             let north = row.north as usize;
             let south = row.south as usize;
-            cells[north][south] = cells[north][south].with(row);
+            cells[north][south].file(row);
         }
     }
 }

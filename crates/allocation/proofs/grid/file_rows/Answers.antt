@@ -20,8 +20,8 @@ loop-row-preserved-then-stands_in c =
     let ys = c.loop-row.yielded in
     let g = c.loop-row.cells in
     let next = gathered_in g (seen ys) c.args.period x.now c.loop-row.invariant.0 (sym c.if-stands_in.ensures) c.loop-row.invariant.1 in (
-      square_set g x.now.north x.now.south c.with.result c.loop-row.invariant.0,
-      rw (seen_more ys x) (subst (λ (v : Cell). Gathered (set g x.now.north (set (get_or g x.now.north []) x.now.south v)) (x.now ∷ seen ys) c.args.period) (sym c.with.ensures) next),
+      square_set g x.now.north x.now.south c.file.new.self c.loop-row.invariant.0,
+      rw (seen_more ys x) (subst (λ (v : Cell). Gathered (set g x.now.north (set (get_or g x.now.north []) x.now.south v)) (x.now ∷ seen ys) c.args.period) (sym c.file.ensures) next),
     )
 
 pub returns : goal.returns

@@ -1,4 +1,4 @@
-use Rattle.std.proofs.Common.{rules, ℕ, ◌<◌, ◌≤◌, List, [], ap, ⊎_elim, arith}
+use Rattle.std.proofs.Common.{rules, ℕ, ◌≤◌, List, [], ap, ⊎_elim, arith}
 use Rattle.std.proofs.lemmas.List.{get_or_past}
 use Rattle.energy.specs.declared.unit.Kwh.{Kwh}
 use Rattle.energy.specs.Grids.{figure_at}
