@@ -14,6 +14,7 @@ told_ns c = alike (option_map (λ x. x.ns.0) c.north_trade) (option_map (λ x. x
 abbrev pub told_sn : Cell → ℕ
 told_sn c = alike (option_map (λ x. x.sn.0) c.north_trade) (option_map (λ x. x.sn.0) c.south_trade)
 
+-- As `same_four` of two rows, of the amounts of each.
 abbrev pub told_four : Option Amounts → Option Amounts → ℕ
 told_four None o = 0
 told_four (Some a) None = 0

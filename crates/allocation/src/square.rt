@@ -17,7 +17,7 @@ pub fn square_of<F: Fn(usize, usize) -> Kwh>(figure: F) -> Square
     ensures inside { (i j : ℕ) → i < 16 → j < 16 → F.post figure i j (kwh (grid_at result i j)) }
     ensures outside { (i j : ℕ) → (16 ≤ i) ⊎ (16 ≤ j) → grid_at result i j ≡ 0 }
 {
-    // A loop over the rows: `from_fn` would copy the whole square three times.
+    // A loop over the rows, since `from_fn` copies all of them once more.
     let mut grid = [[Kwh(0); 16]; 16];
     for i in 0..16 {
         grid[i] = array::from_fn(
@@ -43,6 +43,7 @@ pub fn sum_of(row: &[Kwh]) -> Kwh
     requires { sum_kwh row.now < 2 ^ 64 }
     ensures { result.0 ≡ sum_kwh row.now }
 {
+    // A plain loop, since `total` would check each step of it.
     let mut sum = 0;
     for figure in row {
         sum += figure.0;
