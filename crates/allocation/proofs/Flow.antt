@@ -23,10 +23,10 @@ module _ (rule : Rule) (law : Keeps rule) where
         let swapped = ap (λ (x : ℕ). x / all) (mul_comm (w.entitlement i) w.ntc) in
         omega (arith, award_ge rule law w.ntc w.senders w.entitlement i h (leb-false all w.ntc e)))
 
-    kept_le : (i : ℕ) → i < w.senders → kept rule w i ≤ traded w i
+    pub kept_le : (i : ℕ) → i < w.senders → kept rule w i ≤ traded w i
     kept_le i h = omega (arith, fits i h)
 
-    granted_le : (i : ℕ) → i < w.senders → granted rule w s i ≤ traded w i
+    pub granted_le : (i : ℕ) → i < w.senders → granted rule w s i ≤ traded w i
     granted_le i h = omega (arith, kept_le i h, award_le rule law (left rule w s) w.senders (lacking rule w) i)
 
     granted_ge : (i : ℕ) → i < w.senders → matched w i + min (unmatched w i) (scaled w i) ≤ granted rule w s i

@@ -4,6 +4,7 @@ use mathlib.Core.List.{reverse}
 use Rattle.std.proofs.lemmas.List.{length-set, get_or-replicate, reverse-append, map-append}
 use Rattle.std.proofs.lemmas.Grind.{common_steps}
 use Rattle.std.proofs.lemmas.Bool.Decides.{nat_tests}
+use Rattle.std.specs.Option.{option_map}
 use Rattle.energy.specs.declared.side.Side.{Side}
 use Rattle.energy.specs.declared.side.Side.TheVariants.{Northern, Southern}
 use Rattle.book.specs.FiledRows.{filed_fit, filed_under, same_kind, same_side}
@@ -11,8 +12,9 @@ use Rattle.book.specs.declared.filed_row.FiledKey.{FiledKey}
 use Rattle.book.specs.declared.filed_row.FiledKind.{FiledKind}
 use Rattle.book.specs.declared.filed_row.FiledKind.TheVariants.{Trade, Match}
 use Rattle.book.specs.declared.filed_row.FiledRow.{FiledRow}
-use Rattle.allocation.specs.Cells.{filed, key_of, cell_of, put_as, put}
-use Rattle.allocation.specs.Grids.{cell_in, standing}
+use Rattle.allocation.specs.Cells.{filed, key_of, amounts, cell_of, put_as, put}
+use Rattle.allocation.specs.Grids.{cell_in, empty_grid, standing}
+use Rattle.allocation.specs.declared.cell.Amounts.{Amounts}
 use Rattle.allocation.specs.declared.cell.Cell.{Cell}
 use Rattle.allocation.proofs.Filling.{square_is}
 
@@ -21,10 +23,10 @@ abbrev pub of_pair : FiledRow → ℕ → ℕ → ℕ → Bool
 of_pair x p n s = filed_fit x && (eqb x.period p && (eqb x.north n && eqb x.south s))
 
 module _ (x : FiledRow) (a b c d : Option FiledRow) where
-  abbrev four : (FiledKind → Side → Option FiledRow → Option FiledRow) → Cell
+  abbrev four : (FiledKind → Side → Option FiledRow → Option Amounts) → Cell
   four f = record { north_trade = f Trade Northern a; south_trade = f Trade Southern b; north_match = f Match Northern c; south_match = f Match Southern d }
 
-  placed : (fits pair : Bool) (k : FiledKind) (by : Side) → four (λ what f o. cond (fits && (pair && (same_kind k what && same_side by f))) (Some x) o) ≡ cond (fits && pair) (put_as k by (Some x) (four (λ _ _ o. o))) (four (λ _ _ o. o))
+  placed : (fits pair : Bool) (k : FiledKind) (by : Side) → four (λ what f o. option_map amounts (cond (fits && (pair && (same_kind k what && same_side by f))) (Some x) o)) ≡ cond (fits && pair) (put_as k by (Some (amounts x)) (four (λ _ _ o. option_map amounts o))) (four (λ _ _ o. option_map amounts o))
   placed false pair k by = refl
   placed true false k by = refl
   placed true true Trade Northern = refl
@@ -81,13 +83,13 @@ filed_outside (x ∷ xs) k h =
     grind (arith, nat_tests)
 
 -- a cell of none is what no rows make
-none_made : (a b c d : Option FiledRow) → a ≡ None → b ≡ None → c ≡ None → d ≡ None → ◌≡◌ {A = Cell} (record { north_trade = a; south_trade = b; north_match = c; south_match = d }) (cell_of [] 0 0 0)
+none_made : (a b c d : Option Amounts) → a ≡ None → b ≡ None → c ≡ None → d ≡ None → ◌≡◌ {A = Cell} (record { north_trade = a; south_trade = b; north_match = c; south_match = d }) (cell_of [] 0 0 0)
 none_made a b c d ha hb hc hd = cc
 
 outside : (xs : List FiledRow) (p n s : ℕ) → (16 ≤ n) ⊎ (16 ≤ s) → cell_of xs p n s ≡ cell_of [] 0 0 0
 outside xs p n s h =
-    none_made _ _ _ _ (filed_outside xs (key_of p Trade Northern n s) h) (filed_outside xs (key_of p Trade Southern n s) h)
-    (filed_outside xs (key_of p Match Northern n s) h) (filed_outside xs (key_of p Match Southern n s) h)
+    let none : (what : FiledKind) (by : Side) → option_map amounts (filed xs (key_of p what by n s)) ≡ None = λ what by. ap (option_map amounts) (filed_outside xs (key_of p what by n s) h) in
+    none_made _ _ _ _ (none Trade Northern) (none Trade Southern) (none Match Northern) (none Match Southern)
 
 -- past the square the cells are empty, as the definition has them
 past_square : (g : List (List Cell)) (n s : ℕ) → Square g → (16 ≤ n) ⊎ (16 ≤ s) → cell_in g n s ≡ cell_of [] 0 0 0
@@ -104,10 +106,11 @@ blank e = replicate 16 (replicate 16 e)
 pub square_blank : (e : Cell) → Square (blank e)
 square_blank e = (refl, λ n h. grind (arith, common_steps))
 
-pub gathered_blank : (e : Cell) (p : ℕ) → (e.north_trade ≡ None) × ((e.south_trade ≡ None) × ((e.north_match ≡ None) × (e.south_match ≡ None))) → Gathered (blank e) [] p
-gathered_blank e p is n s hn hs =
-    let made = none_made e.north_trade e.south_trade e.north_match e.south_match is.0 is.1.0 is.1.1.0 is.1.1.1 in
-    rw get_or-replicate (rw get_or-replicate made)
+pub gathered_blank : (e : Cell) (p : ℕ) → e ≡ cell_of [] 0 0 0 → Gathered (blank e) [] p
+gathered_blank e p made n s hn hs = rw get_or-replicate (rw get_or-replicate made)
+
+pub blank_is : (e : Cell) → (e.north_trade ≡ None) × ((e.south_trade ≡ None) × ((e.north_match ≡ None) × (e.south_match ≡ None))) → blank e ≡ empty_grid
+blank_is e is = ap blank (none_made e.north_trade e.south_trade e.north_match e.south_match is.0 is.1.0 is.1.1.0 is.1.1.1)
 
 -- the rows that a loop from the last row has seen, in their own order
 abbrev pub seen : List (Bor FiledRow) → List FiledRow

@@ -52,7 +52,7 @@ pub matches_fit : (t : PeriodTerms) (xs : List FiledRow) (p : ℕ) → Fits (per
 matches_fit t xs p d i _ = matched_le t xs p d i
 
 -- the directions of a period keep the limits of a table
-sound_way : (t : PeriodTerms) (xs : List FiledRow) (p : ℕ) (d : Direction) → Sound (way (period_in t xs p) d)
+pub sound_way : (t : PeriodTerms) (xs : List FiledRow) (p : ℕ) (d : Direction) → Sound (way (period_in t xs p) d)
 sound_way t xs p NorthSouth = record {
   sending = t.northfew;
   receiving = t.southfew;

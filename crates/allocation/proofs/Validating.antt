@@ -7,12 +7,25 @@ use Rattle.book.specs.FiledRows.{filed_fit}
 use Rattle.book.specs.declared.filed_row.FiledKey.{FiledKey}
 use Rattle.book.specs.declared.filed_row.FiledKind.TheVariants.{Trade, Match}
 use Rattle.book.specs.declared.filed_row.FiledRow.{FiledRow}
-use Rattle.allocation.specs.Cells.{filed, key_of, cell_of}
+use Rattle.allocation.specs.Cells.{filed, key_of, amounts, cell_of}
 use Rattle.allocation.specs.Grids.{cell_in}
+use Rattle.allocation.specs.Told.{told_ns, told_sn, told_four, told_match}
 use Rattle.allocation.specs.Trades.{alike, validated, valid_ns, valid_sn, same_four, agreed, north_fits, south_fits, valid_match}
+use Rattle.allocation.specs.declared.cell.Amounts.{Amounts}
 use Rattle.allocation.specs.declared.cell.Cell.{Cell}
 use Rattle.allocation.proofs.Filling.{square_is}
 use Rattle.allocation.proofs.Gathering.{filed_outside}
+
+-- what is told of two rows' amounts is what the rows tell
+alike_told : (amount : Amounts → ℕ) (a b : Option FiledRow) → alike (option_map amount (option_map amounts a)) (option_map amount (option_map amounts b)) ≡ alike (option_map (λ x. amount (amounts x)) a) (option_map (λ x. amount (amounts x)) b)
+alike_told amount None b = refl
+alike_told amount (Some x) None = refl
+alike_told amount (Some x) (Some y) = refl
+
+four_told : (a b : Option FiledRow) → told_four (option_map amounts a) (option_map amounts b) ≡ same_four a b
+four_told None b = refl
+four_told (Some x) None = refl
+four_told (Some x) (Some y) = refl
 
 module _ (xs : List FiledRow) (p : ℕ) where
   -- no pair outside the square has a trade or a match
@@ -23,11 +36,30 @@ module _ (xs : List FiledRow) (p : ℕ) where
   agreed_outside n s h = let none = filed_outside xs (key_of p Match Northern n s) h in rw none refl
 
   -- a square read off the cells of the period's filings
-  pub read_off : (told : Cell → ℕ) (cells : List (List Cell)) → cell_in cells ≡ cell_of xs p → (g : ℕ → ℕ → ℕ) → ((n s : ℕ) → n < 16 → s < 16 → g n s ≡ told (cell_in cells n s)) → ((n s : ℕ) → (16 ≤ n) ⊎ (16 ≤ s) → told (cell_of xs p n s) ≡ 0) → ((n s : ℕ) → (16 ≤ n) ⊎ (16 ≤ s) → g n s ≡ 0) → g ≡ (λ n s. told (cell_of xs p n s))
-  read_off told cells same g inside none nil =
-      square_is (λ n s. told (cell_of xs p n s)) g
-      (λ n s hn hs. inside n s hn hs ∙ ap (λ (f : ℕ → ℕ → Cell). told (f n s)) same)
+  read_off : (told : Cell → ℕ) (f : ℕ → ℕ → ℕ) → ((n s : ℕ) → told (cell_of xs p n s) ≡ f n s) → ((n s : ℕ) → (16 ≤ n) ⊎ (16 ≤ s) → f n s ≡ 0) → (cells : List (List Cell)) → cell_in cells ≡ cell_of xs p → (g : ℕ → ℕ → ℕ) → ((n s : ℕ) → n < 16 → s < 16 → g n s ≡ told (cell_in cells n s)) → ((n s : ℕ) → (16 ≤ n) ⊎ (16 ≤ s) → g n s ≡ 0) → g ≡ f
+  read_off told f tells none cells same g inside nil =
+      square_is f g
+      (λ n s hn hs. inside n s hn hs ∙ ap (λ (h : ℕ → ℕ → Cell). told (h n s)) same ∙ tells n s)
       (λ n s h. nil n s h ∙ sym (none n s h))
+
+  module _ (cells : List (List Cell)) (same : cell_in cells ≡ cell_of xs p) (g : ℕ → ℕ → ℕ) where
+    pub ns_read : ((n s : ℕ) → n < 16 → s < 16 → g n s ≡ told_ns (cell_in cells n s)) → ((n s : ℕ) → (16 ≤ n) ⊎ (16 ≤ s) → g n s ≡ 0) → g ≡ valid_ns xs p
+    ns_read =
+        read_off told_ns (valid_ns xs p)
+        (λ n s. alike_told (λ x. x.ns.0) (filed xs (key_of p Trade Northern n s)) (filed xs (key_of p Trade Southern n s)))
+        (trade_outside (λ x. x.ns.0)) cells same g
+
+    pub sn_read : ((n s : ℕ) → n < 16 → s < 16 → g n s ≡ told_sn (cell_in cells n s)) → ((n s : ℕ) → (16 ≤ n) ⊎ (16 ≤ s) → g n s ≡ 0) → g ≡ valid_sn xs p
+    sn_read =
+        read_off told_sn (valid_sn xs p)
+        (λ n s. alike_told (λ x. x.sn.0) (filed xs (key_of p Trade Northern n s)) (filed xs (key_of p Trade Southern n s)))
+        (trade_outside (λ x. x.sn.0)) cells same g
+
+    pub match_read : ((n s : ℕ) → n < 16 → s < 16 → g n s ≡ told_match (cell_in cells n s)) → ((n s : ℕ) → (16 ≤ n) ⊎ (16 ≤ s) → g n s ≡ 0) → g ≡ agreed xs p
+    match_read =
+        read_off told_match (agreed xs p)
+        (λ n s. four_told (filed xs (key_of p Match Northern n s)) (filed xs (key_of p Match Southern n s)))
+        agreed_outside cells same g
 
 -- an entry's amounts are within the limit
 small_row : (x : FiledRow) → filed_fit x ≡ true → (x.ns.0 ≤ 9999999) × (x.sn.0 ≤ 9999999)

@@ -32,8 +32,15 @@ impl<R: RationingRule> Cut<'_, R> {
         array::from_fn(
             |i|
                 requires { i < 16 }
-                ensures { figure_at result ≡ award (R.awards self.entry.now.rule.now) (figure_at grants i) self.entry.now.table.now.receivers (grid_at self.entry.now.table.now.trade i) }
-            { self.given_by(i, grants[i]) },
+                ensures { i < self.entry.now.table.now.senders → figure_at result ≡ award (R.awards self.entry.now.rule.now) (figure_at grants i) self.entry.now.table.now.receivers (grid_at self.entry.now.table.now.trade i) }
+            {
+                // The rule is asked for registered senders alone.
+                if i < self.table.senders {
+                    self.given_by(i, grants[i])
+                } else {
+                    [Kwh(0); 16]
+                }
+            },
         )
     }
 
@@ -98,8 +105,22 @@ impl<R: RationingRule> Cut<'_, R> {
         requires { IsRow held.now (kept (R.awards self.now.rule.now) (way_of self.now.table.now)) }
         ensures { result.0 ≡ left (R.awards self.now.rule.now) (way_of self.now.table.now) self.now.against.0 }
     {
-        Kwh(self.table.ntc.0 + self.against.0 - sum_of(&held[..self.table.senders]).0)
+        rest_of(
+            self.table.ntc,
+            self.against,
+            sum_of(&held[..self.table.senders]),
+        )
     }
+}
+
+/// What is left of the net transfer capacity and the trade against the flow, past what is held.
+fn rest_of(ntc: Kwh, against: Kwh, held: Kwh) -> Kwh
+    requires within { held.0 ≤ ntc.0 + against.0 }
+    requires capacity { ntc.0 ≤ 2147483647500 }
+    requires small { against.0 ≤ 2559999744 }
+    ensures { result.0 ≡ (ntc.0 + against.0) - held.0 }
+{
+    Kwh(ntc.0 + against.0 - held.0)
 }
 
 /// Two rows, added.

@@ -1,8 +1,6 @@
 // What the filings of two parties tell of them: the validated trades and the agreed match.
 ghost use Rattle.std.specs.Prelude.{◌≡◌};
-ghost use Rattle.std.specs.Option.{option_map};
 ghost use Rattle.allocation.specs.Told.{told_ns, told_sn, told_match};
-ghost use Rattle.allocation.specs.Trades.{alike};
 
 use crate::cell::Cell;
 use energy::Kwh;
@@ -13,20 +11,20 @@ impl Cell {
     pub fn ns_trade(&self) -> Kwh
         ensures { result.0 ≡ told_ns self.now }
     {
-        alike(
-            self.north_trade.map(|row| row.ns),
-            self.south_trade.map(|row| row.ns),
-        )
+        match (self.north_trade, self.south_trade) {
+            (Some(one), Some(other)) if one.ns == other.ns => one.ns,
+            _ => Kwh(0),
+        }
     }
 
     /// The validated trade from South to North.
     pub fn sn_trade(&self) -> Kwh
         ensures { result.0 ≡ told_sn self.now }
     {
-        alike(
-            self.north_trade.map(|row| row.sn),
-            self.south_trade.map(|row| row.sn),
-        )
+        match (self.north_trade, self.south_trade) {
+            (Some(one), Some(other)) if one.sn == other.sn => one.sn,
+            _ => Kwh(0),
+        }
     }
 
     /// The agreed match.
@@ -38,15 +36,5 @@ impl Cell {
                 if one.ns == one.sn && one.ns == other.ns && one.ns == other.sn => one.ns,
             _ => Kwh(0),
         }
-    }
-}
-
-/// What both filed alike, and nil where one filed alone or they filed differently.
-fn alike(one: Option<Kwh>, other: Option<Kwh>) -> Kwh
-    ensures { result.0 ≡ alike (option_map (λ e. e.0) one) (option_map (λ e. e.0) other) }
-{
-    match (one, other) {
-        (Some(one), Some(other)) if one == other => one,
-        _ => Kwh(0),
     }
 }

@@ -9,8 +9,8 @@ sum_of-requires g c =
     let t = c.args.self.now.table.now in
     front_small t.senders c.args.held.now t.sending (held_small (g.met.R.RationingRule.quota c.args.self.now.rule.now) (sound_table t) c.requires)
 
-pub overflow_sub-result : goal.overflow_sub-result
-overflow_sub-result g c =
+pub rest_of-requires-clause-within : goal.rest_of-requires-clause-within
+rest_of-requires-clause-within g c =
     let t = c.args.self.now.table.now in
     omega (arith, sum_front t.senders c.args.held.now, held_within (g.met.R.RationingRule.quota c.args.self.now.rule.now) (sound_table t) c.requires c.args.self.now.against.0 c.args.self.now.covered)
 
