@@ -1,14 +1,16 @@
 -- Where the fields of a line start.
-use Rattle.std.proofs.Common.{◌≡◌, ℕ, zero, suc, ◌+◌, ◌≤◌, ◌==◌, List, [], ◌∷◌, length, get_or, take, drop, Some, None, Option, unwrap_or, refl, ap, ◌∙◌, inl, inr, arith, length-take}
+use Rattle.std.proofs.Common.{◌≡◌, ℕ, zero, suc, ◌+◌, ◌≤◌, ◌==◌, List, [], ◌∷◌, length, get_or, take, drop, Some, None, Option, unwrap_or, refl, sym, ap, ◌∙◌, inl, inr, arith, length-take}
 use Rattle.std.proofs.Math.Seq.{take-nil}
 use Rattle.std.proofs.lemmas.Bool.{cases_Bool}
 use Rattle.std.proofs.lemmas.List.Sums.{sum_by-cons, sum_by-take-drop, fails_before_first, count_by-le-length}
 use Rattle.std.proofs.lemmas.List.Splits.{slice_split_first, slice_split_none, length-slice_split}
+use Rattle.std.proofs.lemmas.Bool.Decides.{nat_tests}
 use Rattle.std.specs.Option.{option_map}
 use Rattle.std.specs.List.{sum_by, onto_first, position, position_or_len}
 use Rattle.nomination.proofs.Marking.{some_below, none_below}
 use Rattle.nomination.specs.Lines.{fields_of}
 use Rattle.nomination.specs.Parts.{TextPart, part_seen, part_of, parts_from, start_of}
+use Rattle.nomination.specs.Records.{detail_parts}
 use Rattle.nomination.specs.declared.part.Part.{Part}
 
 -- how long a field is with a comma behind it
@@ -82,3 +84,18 @@ fields_one bytes e =
 pub fields_few : (bytes : List ℕ) → length (fields_of bytes) ≤ length bytes + 1
 unfolding fields_of
 fields_few bytes = omega (arith, length-slice_split (λ b. b == 44) bytes, count_by-le-length (λ b. b == 44) bytes)
+
+-- the fields that a trade and a match share, read one after the other
+module _ (base : ℕ) (fs : List (List ℕ)) where
+  pub parts_six : (kind period north south ns sn : TextPart) (rest : List TextPart) → parts_from base fs ≡ kind ∷ period ∷ north ∷ south ∷ ns ∷ sn ∷ rest
+      → Some record { period = period; north = north; south = south; ns = ns; sn = sn } ≡ detail_parts base fs
+  parts_six kind period north south ns sn rest e =
+      let none : TextPart = record { bytes = []; at = base + sum_by with_comma fs } in
+      let many = ap length e in
+      let count = parts_count base fs in
+      let p1 = sym (parts_at base fs 1 none refl) ∙ ap (λ ps. get_or ps 1 none) e in
+      let p2 = sym (parts_at base fs 2 none refl) ∙ ap (λ ps. get_or ps 2 none) e in
+      let p3 = sym (parts_at base fs 3 none refl) ∙ ap (λ ps. get_or ps 3 none) e in
+      let p4 = sym (parts_at base fs 4 none refl) ∙ ap (λ ps. get_or ps 4 none) e in
+      let p5 = sym (parts_at base fs 5 none refl) ∙ ap (λ ps. get_or ps 5 none) e in
+      rw (p1, p2, p3, p4, p5) (grind (arith, nat_tests))

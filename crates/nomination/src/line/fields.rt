@@ -13,7 +13,7 @@ use crate::search::find;
 // An iterator of its own, and no `split`: the one search finds the commas too, and each field comes with its place.
 /// The fields of a line, one after the other: what is left of it, none once the last was given.
 #[derive(Drop)]
-struct Fields<'a> {
+pub(super) struct Fields<'a> {
     rest: Option<TextLine<'a>>,
 }
 
@@ -65,7 +65,7 @@ impl<'a> TextLine<'a> {
     }
 
     /// Its fields, one after the other.
-    fn fields(&self) -> Fields<'a>
+    pub(super) fn fields(&self) -> Fields<'a>
         ensures { fields_left result ≡ parts_from self.now.at (fields_of self.now.bytes.now) }
     {
         Fields { rest: Some(*self) }
