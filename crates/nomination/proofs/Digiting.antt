@@ -5,10 +5,10 @@ use Rattle.std.proofs.lemmas.Bool.Decides.{nat_tests}
 use Rattle.nomination.specs.Digits.{is_digit, digits_after, number_of}
 
 -- one digit more
-digit_more : (n k b : ℕ) → is_digit b ≡ true → n < 10 ^ k → n * 10 + (b - 48) < 10 ^ (k + 1)
+pub digit_more : (n k b : ℕ) → is_digit b ≡ true → n < 10 ^ k → n * 10 + (b - 48) < 10 ^ (k + 1)
 digit_more n k b e h = rw (add-one, pow-suc) (grind (arith, nat_tests))
 
-digits_small : (bs : List ℕ) (n k m : ℕ) → n < 10 ^ k → digits_after n bs ≡ Some m → m < 10 ^ (k + length bs)
+pub digits_small : (bs : List ℕ) (n k m : ℕ) → n < 10 ^ k → digits_after n bs ≡ Some m → m < 10 ^ (k + length bs)
 digits_small [] n k m h e = grind (arith, add-zero)
 digits_small (b ∷ bs) n k m h e =
     let more = digits_small bs (n * 10 + (b - 48)) (k + 1) m in

@@ -3,7 +3,6 @@ pub mod Bounding
 pub mod Digiting
 pub mod FieldTexting
 pub mod Fielding
-pub mod Joining
 pub mod LineBack
 pub mod Lining
 pub mod Marking

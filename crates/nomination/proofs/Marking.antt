@@ -10,7 +10,7 @@ use Rattle.nomination.specs.declared.mark.Mark.{Mark}
 use Rattle.nomination.specs.declared.mark.Mark.TheVariants.{Comma, LineEnd}
 
 -- what passes a narrower test from the front on passes a wider one, which goes on from there
-leading_over : (p q : ℕ → Bool) → ((b : ℕ) → p b ≡ true → q b ≡ true) → (xs : List ℕ)
+pub leading_over : (p q : ℕ → Bool) → ((b : ℕ) → p b ≡ true → q b ≡ true) → (xs : List ℕ)
     → prefix_len q xs ≡ prefix_len p xs + prefix_len q (drop (prefix_len p xs) xs)
 leading_over p q h [] = refl
 leading_over p q h (x ∷ xs) =

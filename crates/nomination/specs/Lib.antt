@@ -1,6 +1,5 @@
 pub mod Digits
 pub mod Faults
-pub mod FieldTexts
 pub mod Fields
 pub mod FieldsLeft
 pub mod Kinds

@@ -1,5 +1,5 @@
 -- The records of a nomination file, as parts of its text.
-use Rattle.std.specs.Prelude.{ℕ, Bool, cond, ◌&&◌, List, [], length, Some, None, Ok, Err, Option, Result, ◌==◌, slice_index, slice_index_or}
+use Rattle.std.specs.Prelude.{ℕ, Bool, cond, ◌&&◌, List, [], length, Some, None, Ok, Err, Option, Result, ◌==◌, nat_lt, slice_index, slice_index_or}
 use Rattle.nomination.specs.Lines.{Line, fields_of}
 use Rattle.nomination.specs.Parts.{TextPart, part_of}
 use Rattle.nomination.specs.declared.fault.TextFault.{TextFault}
@@ -40,6 +40,10 @@ header_text base fs =
 abbrev pub detail_text : ℕ → List (List ℕ) → DetailText
 detail_text base fs =
     record { period = part_of base fs 1; north = part_of base fs 2; south = part_of base fs 3; ns = part_of base fs 4; sn = part_of base fs 5 }
+
+-- The fields that a trade and a match share, where there are so many.
+abbrev pub detail_parts : ℕ → List (List ℕ) → Option DetailText
+detail_parts base fs = cond (nat_lt 5 (length fs)) (Some (detail_text base fs)) None
 
 -- The header with these fields: H and four more.
 abbrev pub header_in : ℕ → List (List ℕ) → Option RecordText

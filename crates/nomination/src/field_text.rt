@@ -1,72 +1,76 @@
-// Fields as text. No `write!`: its contract does not say when it succeeds, and a field's text cannot fail.
-ghost use Rattle.std.specs.Prelude.{◌≡◌, ◌≤◌};
+// Fields as text, each appended to a line's. No `write!`: its contract does not say when it succeeds, and a field's text cannot fail.
+ghost use Rattle.std.specs.Prelude.{◌≡◌, ◌≤◌, ◌+◌, ◌∷◌, ◌++◌, length};
+ghost use Rattle.arrayvec.specs.ArrayString.{array_string_len};
 ghost use Rattle.energy.specs.PartyCodes.{code_text};
 ghost use Rattle.nomination.specs.LastDigits.{last_digits};
 ghost use Rattle.nomination.specs.Texts.{plain_text, amount_text, flag_text};
 
+use crate::longest::LONGEST_LINE;
 use arrayvec::ArrayString;
 use book::Flag;
 use energy::{Kwh, PartyCode};
 
-/// A field as it is written: none is longer than eight bytes.
-pub(crate) type FieldText = ArrayString<8>;
+/// A line's text while it is written. Each field goes straight into it: texts of their own, joined later, took twice the time.
+pub(crate) type Text = ArrayString<LONGEST_LINE>;
 
-/// So many last digits of a number.
+/// Appends so many last digits of a number.
 #[tactic(auto, using(crate::proofs::FieldTexting::tens_some, crate::proofs::FieldTexting::digits_next))]
-pub(crate) fn last_digits(count: u32, number: u64) -> FieldText
-    requires { count ≤ 8 }
-    ensures { result.bytes ≡ last_digits count number }
+pub(crate) fn push_digits(text: &mut Text, count: u32, number: u64)
+    requires few { count ≤ 8 }
+    requires room { array_string_len text.old + count ≤ LONGEST_LINE }
+    ensures { text.new.bytes ≡ text.old.bytes ++ last_digits count number }
 {
-    let mut text = FieldText::new();
     for place in (0..count).rev() {
         text.push(char::from(b'0' + (number / 10_u64.pow(place) % 10) as u8));
     }
-    text
 }
 
-/// A number below 10,000 with no needless leading zero.
-pub(crate) fn plain_text(number: u64) -> FieldText
-    ensures { result.bytes ≡ plain_text number }
+/// Appends a number below 10,000 with no needless leading zero.
+// The counts are constants, so that each digit is found by a constant divisor.
+pub(crate) fn push_plain(text: &mut Text, number: u64)
+    requires { array_string_len text.old + length (plain_text number) ≤ LONGEST_LINE }
+    ensures { text.new.bytes ≡ text.old.bytes ++ plain_text number }
 {
-    let count = match number {
-        ..10 => 1,
-        ..100 => 2,
-        ..1000 => 3,
-        _ => 4,
-    };
-    last_digits(count, number)
-}
-
-/// An energy in MWh.
-pub(crate) fn amount_text(energy: Kwh) -> FieldText
-    ensures { result.bytes ≡ amount_text energy }
-{
-    let mut text = plain_text(energy.0 / 1000);
-    text.push('.');
-    text.push_str(last_digits(3, energy.0).as_str());
-    text
-}
-
-/// A party's code.
-pub(crate) fn code_text(code: PartyCode) -> FieldText
-    ensures { result.bytes ≡ code_text code }
-{
-    let mut text = FieldText::new();
-    for byte in code.bytes() {
-        text.push(char::from(byte));
+    match number {
+        ..10 => push_digits(text, 1, number),
+        ..100 => push_digits(text, 2, number),
+        ..1000 => push_digits(text, 3, number),
+        _ => push_digits(text, 4, number),
     }
-    text
 }
 
-/// The letter of a flag: none for brown.
-pub(crate) fn flag_text(flag: Flag) -> FieldText
-    ensures { result.bytes ≡ flag_text flag }
+/// Appends a comma and an energy in MWh.
+pub(crate) fn push_amount(text: &mut Text, energy: Kwh)
+    requires { array_string_len text.old + length (44 ∷ amount_text energy) ≤ LONGEST_LINE }
+    ensures { text.new.bytes ≡ text.old.bytes ++ (44 ∷ amount_text energy) }
 {
-    let mut text = FieldText::new();
+    text.push(',');
+    push_plain(text, energy.0 / 1000);
+    text.push('.');
+    push_digits(text, 3, energy.0);
+}
+
+/// Appends a comma and a party's code.
+pub(crate) fn push_code(text: &mut Text, code: PartyCode)
+    requires { array_string_len text.old + 5 ≤ LONGEST_LINE }
+    ensures { text.new.bytes ≡ text.old.bytes ++ (44 ∷ code_text code) }
+{
+    text.push(',');
+    for byte in code.bytes() {
+        // Each is below 128; the compiler, which reads no proofs, sees it by the `%`.
+        text.push(char::from(byte % 128));
+    }
+}
+
+/// Appends a comma and the letter of a flag: none for brown.
+pub(crate) fn push_flag(text: &mut Text, flag: Flag)
+    requires { array_string_len text.old + length (44 ∷ flag_text flag) ≤ LONGEST_LINE }
+    ensures { text.new.bytes ≡ text.old.bytes ++ (44 ∷ flag_text flag) }
+{
+    text.push(',');
     match flag {
         Flag::Brown => {}
         Flag::Chp => text.push('C'),
         Flag::Renewable => text.push('G'),
     }
-    text
 }

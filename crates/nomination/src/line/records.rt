@@ -4,7 +4,7 @@ ghost use Rattle.std.specs.Option.{option_map};
 ghost use Rattle.nomination.specs.Lines.{fields_of};
 ghost use Rattle.nomination.specs.LinesSeen.{line_shown};
 ghost use Rattle.nomination.specs.Reading.{record_of};
-ghost use Rattle.nomination.specs.Records.{detail_text, header_in, detail_in, record_in};
+ghost use Rattle.nomination.specs.Records.{detail_parts, header_in, detail_in, record_in};
 ghost use Rattle.nomination.specs.RecordsSeen.{detail_seen, record_seen, line_seen};
 
 use crate::fault::TextFault;
@@ -60,24 +60,32 @@ impl<'a> TextLine<'a> {
         let count = self.field_count();
         let first = self.field(0).bytes;
         if count == 7 && is_detail(first, FiledKind::Trade) {
-            return Some(Record::Trading(self.detail_parts(), self.field(6)));
+            return Some(Record::Trading(self.detail_parts()?, self.field(6)));
         }
         if count == 6 && is_detail(first, FiledKind::Match) {
-            return Some(Record::Matching(self.detail_parts()));
+            return Some(Record::Matching(self.detail_parts()?));
         }
         None
     }
 
-    /// The parts that a trade and a match share.
-    fn detail_parts(&self) -> DetailParts<'a>
-        ensures { detail_seen result ≡ detail_text self.now.at (fields_of self.now.bytes.now) }
+    /// The parts that a trade and a match share, if it has so many fields.
+    // One pass gives them all: a search from the line's start for each took most of the time of reading.
+    fn detail_parts(&self) -> Option<DetailParts<'a>>
+        ensures { option_map detail_seen result ≡ detail_parts self.now.at (fields_of self.now.bytes.now) }
     {
-        DetailParts {
-            period: self.field(1),
-            north: self.field(2),
-            south: self.field(3),
-            ns: self.field(4),
-            sn: self.field(5),
-        }
+        let mut fields = self.fields();
+        let _kind = fields.next()?;
+        let period = fields.next()?;
+        let north = fields.next()?;
+        let south = fields.next()?;
+        let ns = fields.next()?;
+        let sn = fields.next()?;
+        Some(DetailParts {
+            period,
+            north,
+            south,
+            ns,
+            sn,
+        })
     }
 }

@@ -1,39 +1,27 @@
 // Lines as text.
-ghost use Rattle.std.specs.Prelude.{◌≡◌, ◌≤◌, [], ◌∷◌, ◌++◌, length};
-ghost use Rattle.nomination.specs.FieldTexts.{fields_held};
+ghost use Rattle.std.specs.Prelude.{◌≡◌, ◌+◌, ◌≤◌, [], ◌∷◌, ◌++◌, length};
+ghost use Rattle.arrayvec.specs.ArrayString.{array_string_len};
 ghost use Rattle.nomination.specs.LineTexts.{text_held};
-ghost use Rattle.nomination.specs.Texts.{detail_fields, parted, line_text};
+ghost use Rattle.nomination.specs.Texts.{detail_fields, record_fields, parted, line_text};
 ghost use Rattle.nomination.specs.ValuesHeld.{detail_said, values_said};
 ghost use Rattle.nomination.specs.Writing.{placed};
 
 use crate::detail::Detail;
-use crate::field_text::{FieldText, amount_text, code_text, flag_text, last_digits, plain_text};
+use crate::field_text::{Text, push_amount, push_code, push_digits, push_flag, push_plain};
 use crate::line_text::LineText;
 use crate::longest::LONGEST_LINE;
 use crate::values::Values;
-use arrayvec::ArrayString;
 
 impl LineText {
     /// The line that says these values.
-    #[tactic(auto, using(crate::proofs::FieldTexting::date_digits))]
+    #[tactic(auto, using(crate::proofs::FieldTexting::line_short))]
     pub fn of(values: Values) -> LineText
         ensures { text_held result ≡ line_text (values_said values) }
     {
-        match values {
-            Values::Heading(header) => line(
-                "H,IANS",
-                &[
-                    last_digits(3, u64::from(header.version)),
-                    code_text(header.filer),
-                    last_digits(8, u64::from(header.date)),
-                ],
-            ),
-            Values::Trading(detail, flag) => {
-                let [period, north, south, ns, sn] = detail_texts(detail);
-                line("D1", &[period, north, south, ns, sn, flag_text(flag)])
-            }
-            Values::Matching(detail) => line("D2", &detail_texts(detail)),
-        }
+        let mut text = Text::new();
+        push_fields(&mut text, values);
+        text.push('\n');
+        LineText { text }
     }
 
     /// Its length.
@@ -59,32 +47,41 @@ impl LineText {
     }
 }
 
-/// The fields that a trade and a match share behind the first.
-fn detail_texts(detail: Detail) -> [FieldText; 5]
-    ensures { fields_held result ≡ detail_fields (detail_said detail) [] }
+/// Appends the fields of a record, with a comma between each two.
+#[tactic(auto, using(crate::proofs::FieldTexting::date_digits))]
+fn push_fields(text: &mut Text, values: Values)
+    requires { array_string_len text.old + length (parted (record_fields (values_said values))) ≤ LONGEST_LINE }
+    ensures { text.new.bytes ≡ text.old.bytes ++ parted (record_fields (values_said values)) }
 {
-    [
-        plain_text(u64::from(detail.period)),
-        code_text(detail.north),
-        code_text(detail.south),
-        amount_text(detail.ns),
-        amount_text(detail.sn),
-    ]
+    match values {
+        Values::Heading(header) => {
+            text.push_str("H,IANS,");
+            push_digits(text, 3, u64::from(header.version));
+            push_code(text, header.filer);
+            text.push(',');
+            push_digits(text, 8, u64::from(header.date));
+        }
+        Values::Trading(detail, flag) => {
+            text.push_str("D1");
+            push_detail(text, detail);
+            push_flag(text, flag);
+        }
+        Values::Matching(detail) => {
+            text.push_str("D2");
+            push_detail(text, detail);
+        }
+    }
 }
 
-/// The line of these fields, with a comma between each two.
-// `write!` would be plainer, but its contract does not say when it succeeds, and a line's text cannot fail.
-#[tactic(auto, using(crate::proofs::Joining::parted_behind))]
-fn line(first: &str, others: &[FieldText]) -> LineText
-    requires { length (parted (first.now ∷ fields_held others.now) ++ (10 ∷ [])) ≤ LONGEST_LINE }
-    ensures { text_held result ≡ parted (first.now ∷ fields_held others.now) ++ (10 ∷ []) }
+/// Appends the fields that a trade and a match share behind the first, each behind a comma.
+fn push_detail(text: &mut Text, detail: Detail)
+    requires { array_string_len text.old + length (44 ∷ parted (detail_fields (detail_said detail) [])) ≤ LONGEST_LINE }
+    ensures { text.new.bytes ≡ text.old.bytes ++ (44 ∷ parted (detail_fields (detail_said detail) [])) }
 {
-    let mut text = ArrayString::new();
-    text.push_str(first);
-    for field in others {
-        text.push(',');
-        text.push_str(field.as_str());
-    }
-    text.push('\n');
-    LineText { text }
+    text.push(',');
+    push_plain(text, u64::from(detail.period));
+    push_code(text, detail.north);
+    push_code(text, detail.south);
+    push_amount(text, detail.ns);
+    push_amount(text, detail.sn);
 }
