@@ -17,12 +17,12 @@ use Rattle.allocation.proofs.Filling.{square_is}
 use Rattle.allocation.proofs.Gathering.{filed_outside}
 
 -- what is told of two rows' amounts is what the rows tell
-alike_told : (amount : Amounts → ℕ) (a b : Option FiledRow) → alike (option_map amount (option_map amounts a)) (option_map amount (option_map amounts b)) ≡ alike (option_map (λ x. amount (amounts x)) a) (option_map (λ x. amount (amounts x)) b)
+pub alike_told : (amount : Amounts → ℕ) (a b : Option FiledRow) → alike (option_map amount (option_map amounts a)) (option_map amount (option_map amounts b)) ≡ alike (option_map (λ x. amount (amounts x)) a) (option_map (λ x. amount (amounts x)) b)
 alike_told amount None b = refl
 alike_told amount (Some x) None = refl
 alike_told amount (Some x) (Some y) = refl
 
-four_told : (a b : Option FiledRow) → told_four (option_map amounts a) (option_map amounts b) ≡ same_four a b
+pub four_told : (a b : Option FiledRow) → told_four (option_map amounts a) (option_map amounts b) ≡ same_four a b
 four_told None b = refl
 four_told (Some x) None = refl
 four_told (Some x) (Some y) = refl
@@ -36,7 +36,7 @@ module _ (xs : List FiledRow) (p : ℕ) where
   agreed_outside n s h = let none = filed_outside xs (key_of p Match Northern n s) h in rw none refl
 
   -- a square read off the cells of the period's filings
-  read_off : (told : Cell → ℕ) (f : ℕ → ℕ → ℕ) → ((n s : ℕ) → told (cell_of xs p n s) ≡ f n s) → ((n s : ℕ) → (16 ≤ n) ⊎ (16 ≤ s) → f n s ≡ 0) → (cells : List (List Cell)) → cell_in cells ≡ cell_of xs p → (g : ℕ → ℕ → ℕ) → ((n s : ℕ) → n < 16 → s < 16 → g n s ≡ told (cell_in cells n s)) → ((n s : ℕ) → (16 ≤ n) ⊎ (16 ≤ s) → g n s ≡ 0) → g ≡ f
+  pub read_off : (told : Cell → ℕ) (f : ℕ → ℕ → ℕ) → ((n s : ℕ) → told (cell_of xs p n s) ≡ f n s) → ((n s : ℕ) → (16 ≤ n) ⊎ (16 ≤ s) → f n s ≡ 0) → (cells : List (List Cell)) → cell_in cells ≡ cell_of xs p → (g : ℕ → ℕ → ℕ) → ((n s : ℕ) → n < 16 → s < 16 → g n s ≡ told (cell_in cells n s)) → ((n s : ℕ) → (16 ≤ n) ⊎ (16 ≤ s) → g n s ≡ 0) → g ≡ f
   read_off told f tells none cells same g inside nil =
       square_is f g
       (λ n s hn hs. inside n s hn hs ∙ ap (λ (h : ℕ → ℕ → Cell). told (h n s)) same ∙ tells n s)

@@ -5,7 +5,7 @@ ghost use Rattle.energy.specs.Totals.{sum_kwh};
 ghost use Rattle.energy.specs.Units.{kwh};
 ghost use Rattle.allocation.specs.Told.{grid_at, Within16};
 
-use energy::Kwh;
+use energy::{Kwh, total};
 use std::array;
 
 /// Figures by sender and receiver.
@@ -43,10 +43,5 @@ pub fn sum_of(row: &[Kwh]) -> Kwh
     requires { sum_kwh row.now < 2 ^ 64 }
     ensures { result.0 ≡ sum_kwh row.now }
 {
-    // A plain loop, since `total` would check each step of it.
-    let mut sum = 0;
-    for figure in row {
-        sum += figure.0;
-    }
-    Kwh(sum)
+    total(row).unwrap()
 }
