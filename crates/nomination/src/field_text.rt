@@ -10,7 +10,8 @@ use arrayvec::ArrayString;
 use book::Flag;
 use energy::{Kwh, PartyCode};
 
-/// A line's text while it is written. Each field goes straight into it: texts of their own, joined later, took twice the time.
+/// A line's text while it is written.
+// Each field goes straight into it: a text for each, joined later, took more than twice the instructions.
 pub(crate) type Text = ArrayString<LONGEST_LINE>;
 
 /// Appends so many last digits of a number.

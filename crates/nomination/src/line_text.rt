@@ -7,7 +7,7 @@ use arrayvec::ArrayString;
 mod calls;
 
 /// A line as it is written, byte 10 included: no line is longer than 36 bytes.
-#[derive(Clone, Copy)]
+#[derive(Clone, Copy, PartialEq, Eq, Debug)]
 pub struct LineText {
     text: ArrayString<LONGEST_LINE>,
     ghost within: { length text.bytes ≤ 36 },

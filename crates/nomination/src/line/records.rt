@@ -69,7 +69,7 @@ impl<'a> TextLine<'a> {
     }
 
     /// The parts that a trade and a match share, if it has so many fields.
-    // One pass gives them all: a search from the line's start for each took most of the time of reading.
+    // One pass gives them all: to search from the line's start for each was most of the work of reading.
     fn detail_parts(&self) -> Option<DetailParts<'a>>
         ensures { option_map detail_seen result ≡ detail_parts self.now.at (fields_of self.now.bytes.now) }
     {
